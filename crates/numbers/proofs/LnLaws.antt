@@ -1,0 +1,292 @@
+-- The logarithm of an f32 that is finite and above zero, from the parts of its value as an f64: sig * 2 ^ j / 2 ^ 1074. Assumes nothing.
+use mathlib.Core.Path.{_≡_, refl, sym, ap, _∙_, subst}
+use mathlib.Core.Logic.{_⊎_, inl, inr}
+use mathlib.Core.Bool.{Bool, true, false, not, _&&_, cond, true≢false, false≢true}
+use Prim.Native.Nat.{ℕ, zero, suc, _+_, _-_, _*_, _/_, _%_, _^_, _≤_, _<_}
+use native.Mathlib.Nat.{le-refl, le-trans, le-of-eq, le-of-lt, lt-of-lt-of-le, lt-of-le-of-lt, lt-irrefl, lt-of-not-le, le-of-suc-le-suc, mul-one, mul-assoc, mul-comm, mul-left-comm, mul-right-comm, mul-le-mul-right, mul-le-mul-left, mul-lt-mul-of-pos-right, lt-of-mul-lt-mul-right, eq-of-mul-eq-mul-right, le-add-right, zero-lt-suc, one-mul, zero-mul, mul-pos, mod-eq-of-lt}
+use native.Mathlib.Decide.{decLe}
+use native.Mathlib.Omega.{arith}
+use lib.Dec.{T, leb, ltb, eqb, eqb→eq, ltb→lt, leb→le, lit≤, lit<}
+use lib.Pow.{pow-add, pow-pos, pow-mono, pow-lt, shl-lt}
+use lib.IntN.{ℤ, pos, negsuc}
+use lib.Ieee.{Float, nan, inf, fin, binary32, binary64, up, down, minus, size, fits, isNan, nanBits, ofBits, lt, round}
+use lib.Ieee.Digits.{size-lt, size-le, size-reaches}
+use lib.Ieee.Fits.{and-l, and-r, and-i, fits-widens, up-pos, down-pos}
+use lib.Ieee.Exact.{HasValue}
+use lib.Ieee.Nearest.{div-same}
+use lib.Ieee.Scale.{finite}
+use borrow.Author.Tests.{ltb-true, ltb-false, le-leb, lt-leb}
+use Rattle.numbers.specs.Log.{digits, rise, fall, lead, fixed, scaled, ln}
+use Rattle.numbers.specs.declared.Out32.{Out32}
+use Rattle.numbers.specs.declared.Out32.the-variants.{Is, Refused}
+use Rattle.numbers.specs.Values.{Parted}
+use Rattle.numbers.specs.declared.rounding.Parts.{Parts}
+use Rattle.numbers.proofs.Packs.{size-exact}
+
+-- ---- which values pass the two tests
+zero-is : ofBits binary32 0 ≡ fin false 0 (pos 0)
+unfolding ofBits
+zero-is = refl
+
+top-is : ofBits binary32 2139095040 ≡ inf false
+unfolding ofBits
+top-is = refl
+
+pub top-number : T (not (nanBits binary32 2139095040))
+unfolding nanBits
+top-number = tt
+
+abbrev pub Plain : Float → Type 0
+Plain v = (m : ℕ) × (e : ℤ) × (v ≡ fin false (suc m) e)
+
+none-above : (d : ℕ) → 0 * 1 * d < 0 → ⊥
+none-above d h = omega arith
+
+pub plain-at : (v : Float) → lt (fin false 0 (pos 0)) v ≡ true → lt v (inf false) ≡ true → Plain v
+unfolding lt
+plain-at nan a b = absurd (false≢true a)
+plain-at (inf true) a b = absurd (false≢true a)
+plain-at (inf false) a b = absurd (false≢true b)
+plain-at (fin true m e) a b = absurd (false≢true a)
+plain-at (fin false zero e) a b = absurd (none-above (down e) (subst (λ (x : ℕ). 0 * 1 * down e < x) (mul-one (0 * up e) ∙ zero-mul (up e)) (ltb-true (0 * 1 * down e) (0 * up e * 1) a)))
+plain-at (fin false (suc m) e) a b = (m, e, refl)
+
+pub plain : (v : Float) → lt (ofBits binary32 0) v ≡ true → lt v (ofBits binary32 2139095040) ≡ true → Plain v
+plain v a b = plain-at v (sym (ap (λ (x : Float). lt x v) zero-is) ∙ a) (sym (ap (λ (x : Float). lt v x) top-is) ∙ b)
+
+pub plain-finite : (v : Float) → Plain v → T (finite v)
+plain-finite v p = subst (λ (x : Float). T (finite x)) (sym (p .2)) tt
+
+pub plain-widens : (v : Float) → T (fits binary32 v) → Plain v → T (fits binary64 v && not (isNan v))
+unfolding isNan
+plain-widens v f p = and-i (fits binary64 v) (not (isNan v)) (fits-widens v f) (subst (λ (x : Float). T (not (isNan x))) (sym (p .2)) tt)
+
+-- the rest is refused
+nothing : (x d : ℕ) → x * 1 ≤ 0 * 1 * d → x ≤ 0
+nothing x d h = omega arith
+
+not-above-at : (v : Float) → lt (fin false 0 (pos 0)) v ≡ false → Refused 10 ≡ ln v
+unfolding lt ln
+not-above-at nan a = refl
+not-above-at (inf s) a = refl
+not-above-at (fin true m e) a = refl
+not-above-at (fin false zero e) a = refl
+not-above-at (fin false (suc m) e) a = absurd (lt-irrefl 0 (lt-of-lt-of-le (mul-pos (zero-lt-suc m) (up-pos e)) (nothing (suc m * up e) (down e) (ltb-false (0 * 1 * down e) (suc m * up e * 1) a))))
+
+pub not-above : (v : Float) → lt (ofBits binary32 0) v ≡ false → Refused 10 ≡ ln v
+not-above v a = not-above-at v (sym (ap (λ (x : Float). lt x v) zero-is) ∙ a)
+
+not-below-at : (v : Float) → lt v (inf false) ≡ false → Refused 10 ≡ ln v
+unfolding lt ln
+not-below-at nan b = refl
+not-below-at (inf s) b = refl
+not-below-at (fin s m e) b = absurd (true≢false b)
+
+pub not-below : (v : Float) → lt v (ofBits binary32 2139095040) ≡ false → Refused 10 ≡ ln v
+not-below v b = not-below-at v (sym (ap (λ (x : Float). lt v x) top-is) ∙ b)
+
+-- ---- what a format holds
+abbrev pub Held : ℕ → ℤ → Type 0
+Held m e = (m < 2 ^ 24) × (down e ≤ 2 ^ 149) × (m * up e < 2 ^ 128 * down e)
+
+pub held : (m : ℕ) (e : ℤ) → T (fits binary32 (fin false (suc m) e)) → Held (suc m) e
+unfolding fits
+held m e h =
+    let A = eqb (suc m % 2) 1 in
+    let B = ltb (suc m) (2 ^ 24) in
+    let C = leb (down e) (2 ^ 149) in
+    let D = ltb (suc m * up e) (2 ^ 128 * down e) in (
+      ltb→lt (suc m) (2 ^ 24) (and-r A B (and-l (A && B) C (and-l (A && B && C) D h))),
+      leb→le (down e) (2 ^ 149) (and-r (A && B) C (and-l (A && B && C) D h)),
+      ltb→lt (suc m * up e) (2 ^ 128 * down e) (and-r (A && B && C) D h),
+    )
+
+up-is : (e : ℤ) → up e ≡ 2 ^ rise e
+up-is (pos a) = refl
+up-is (negsuc a) = refl
+
+down-is : (e : ℤ) → down e ≡ 2 ^ fall e
+down-is (pos a) = refl
+down-is (negsuc a) = refl
+
+pow-le-back : (a l : ℕ) → 2 ^ a ≤ 2 ^ l → a ≤ l
+pow-le-back a l h = le-of-suc-le-suc (lt-of-not-le (λ (g : suc l ≤ a). lt-irrefl (2 ^ l) (lt-of-lt-of-le (pow-lt g) h)))
+
+pow-lt-back : (i p : ℕ) → 2 ^ i < 2 ^ p → i < p
+pow-lt-back i p h = lt-of-not-le (λ (g : p ≤ i). lt-irrefl (2 ^ i) (lt-of-lt-of-le h (pow-mono g)))
+
+pub size-shift : (m k : ℕ) → 0 < m → size (m * 2 ^ k) ≡ size m + k
+size-shift m k p =
+    let z = size m in
+    let Z : 0 < z = lt-of-not-le (λ (g : z ≤ 0). lt-irrefl 0 (lt-of-lt-of-le p (le-of-suc-le-suc (lt-of-lt-of-le (size-lt m) (pow-mono g))))) in
+    size-exact (z - 1 + k) (m * 2 ^ k)
+    (le-trans (le-of-eq (pow-add 2 (z - 1) k)) (mul-le-mul-right (2 ^ k) (size-reaches m (z - 1) (before z Z))))
+    (subst (λ (x : ℕ). m * 2 ^ k < 2 ^ x) (after z Z) (shl-lt z k (size-lt m)))
+    ∙ sym (after z Z)
+  where
+    before : (x : ℕ) → 0 < x → x - 1 < x
+    before x h = omega arith
+
+    after : (x : ℕ) → 0 < x → x + k ≡ suc (x - 1 + k)
+    after x h = omega arith
+
+-- a difference, written in another way
+minus-yes : (a b : ℕ) → b ≤ a → minus a b ≡ pos (a - b)
+minus-yes a b h = ap (λ (t : Bool). cond t (pos (a - b)) (negsuc (b - suc a))) (le-leb b a h)
+
+minus-no : (a b : ℕ) → a < b → minus a b ≡ negsuc (b - suc a)
+minus-no a b h = ap (λ (t : Bool). cond t (pos (a - b)) (negsuc (b - suc a))) (lt-leb b a h)
+
+minus-same : (a b c d : ℕ) → a + d ≡ c + b → minus a b ≡ minus c d
+minus-same a b c d e = go (decLe b a)
+  where
+    go : Dec (b ≤ a) → minus a b ≡ minus c d
+    go (yes h) = minus-yes a b h ∙ ap pos (omega arith) ∙ sym (minus-yes c d (omega arith))
+    go (no n) = minus-no a b (omega arith) ∙ ap negsuc (omega arith) ∙ sym (minus-no c d (omega arith))
+
+-- ---- v is m * 2 ^ e, and sig * 2 ^ j / 2 ^ 1074
+module _ (m : ℕ) (e : ℤ) (sig j : ℕ) (M : 0 < m) (F : Held m e) (W : m * up e * 2 ^ 1074 ≡ sig * 2 ^ j * down e) (S : sig < 2 ^ 53) (L : (j ≡ 0) ⊎ (2 ^ 52 ≤ sig)) where
+  fall-le : fall e ≤ 149
+  fall-le = pow-le-back (fall e) 149 (subst (λ (x : ℕ). x ≤ 2 ^ 149) (down-is e) (F .1))
+
+  -- e + 1074
+  abbrev J : ℕ
+  J = rise e + 1074 - fall e
+
+  J-is : J + fall e ≡ rise e + 1074
+  J-is = omega (arith, fall-le)
+
+  J-ge : 925 ≤ J
+  J-ge = omega (arith, fall-le)
+
+  same : m * 2 ^ J ≡ sig * 2 ^ j
+  same = eq-of-mul-eq-mul-right (2 ^ fall e) (pow-pos (fall e)) (m * 2 ^ J) (sig * 2 ^ j)
+      (mul-assoc m (2 ^ J) (2 ^ fall e)
+      ∙ ap (λ (x : ℕ). m * x) (sym (pow-add 2 J (fall e)) ∙ ap (λ (x : ℕ). 2 ^ x) J-is ∙ pow-add 2 (rise e) 1074)
+      ∙ sym (mul-assoc m (2 ^ rise e) (2 ^ 1074))
+      ∙ ap (λ (x : ℕ). m * x * 2 ^ 1074) (sym (up-is e))
+      ∙ W
+      ∙ ap (λ (x : ℕ). sig * 2 ^ j * x) (down-is e))
+
+  pub full : 2 ^ 52 ≤ sig
+  full = go L
+    where
+      large : 2 ^ 925 ≤ sig * 2 ^ j
+      large = le-trans (pow-mono J-ge) (le-trans (le-of-eq (sym (one-mul (2 ^ J)))) (le-trans (mul-le-mul-right (2 ^ J) M) (le-of-eq same)))
+
+      go : (j ≡ 0) ⊎ (2 ^ 52 ≤ sig) → 2 ^ 52 ≤ sig
+      go (inl z) = le-trans (lit≤ tt) (le-trans large (le-of-eq (ap (λ (x : ℕ). sig * 2 ^ x) z ∙ mul-one sig)))
+      go (inr h) = h
+
+  sizes : size m + J ≡ 53 + j
+  sizes = sym (size-shift m J M) ∙ ap size same ∙ size-shift sig j (lt-of-lt-of-le (pow-pos 52) full) ∙ ap (λ (x : ℕ). x + j) (size-exact 52 sig full S)
+
+  size-pos : 0 < size m
+  size-pos = lt-of-not-le (λ (g : size m ≤ 0). lt-irrefl 0 (lt-of-lt-of-le M (le-of-suc-le-suc (lt-of-lt-of-le (size-lt m) (pow-mono g)))))
+
+  pub j-ge : 873 ≤ j
+  j-ge = go (size m) J j size-pos J-ge sizes
+    where
+      go : (z k i : ℕ) → 0 < z → 925 ≤ k → z + k ≡ 53 + i → 873 ≤ i
+      go z k i a b c = omega arith
+
+  pub j-lt : j < 1150
+  j-lt = go j (pow-lt-back (52 + j) 1202 (lt-of-le-of-lt (le-trans (le-of-eq (pow-add 2 52 j)) (le-trans (mul-le-mul-right (2 ^ j) full) (le-of-eq (sym same)))) below))
+    where
+      go : (i : ℕ) → 52 + i < 1202 → i < 1150
+      go i h = omega arith
+
+      scaled-up : m * 2 ^ rise e < 2 ^ 128 * 2 ^ fall e
+      scaled-up = subst (λ (x : ℕ). m * x < 2 ^ 128 * 2 ^ fall e) (up-is e) (subst (λ (x : ℕ). m * up e < 2 ^ 128 * x) (down-is e) (F .2))
+
+      below : m * 2 ^ J < 2 ^ 1202
+      below = lt-of-mul-lt-mul-right (2 ^ fall e)
+          (lt-of-le-of-lt
+          (le-of-eq (mul-assoc m (2 ^ J) (2 ^ fall e) ∙ ap (λ (x : ℕ). m * x) (sym (pow-add 2 J (fall e)) ∙ ap (λ (x : ℕ). 2 ^ x) J-is ∙ pow-add 2 (rise e) 1074) ∙ sym (mul-assoc m (2 ^ rise e) (2 ^ 1074))))
+          (lt-of-lt-of-le (mul-lt-mul-of-pos-right scaled-up (pow-pos 1074))
+          (le-of-eq (mul-right-comm (2 ^ 128) (2 ^ fall e) (2 ^ 1074) ∙ ap (λ (x : ℕ). x * 2 ^ fall e) (sym (pow-add 2 128 1074))))))
+
+  lead-is : lead m ≡ sig / 2 ^ 21
+  lead-is = div-same (m * 2 ^ 32) (2 ^ size m) sig (2 ^ 21) (pow-pos (size m)) (pow-pos 21)
+      (eq-of-mul-eq-mul-right (2 ^ J) (pow-pos J) (m * 2 ^ 32 * 2 ^ 21) (sig * 2 ^ size m)
+      (ap (λ (x : ℕ). x * 2 ^ J) (mul-assoc m (2 ^ 32) (2 ^ 21))
+      ∙ mul-right-comm m (2 ^ 53) (2 ^ J)
+      ∙ ap (λ (x : ℕ). x * 2 ^ 53) same
+      ∙ mul-assoc sig (2 ^ j) (2 ^ 53)
+      ∙ ap (λ (x : ℕ). sig * x) (mul-comm (2 ^ j) (2 ^ 53) ∙ sym (pow-add 2 53 j) ∙ ap (λ (x : ℕ). 2 ^ x) (sym sizes) ∙ pow-add 2 (size m) J)
+      ∙ sym (mul-assoc sig (2 ^ size m) (2 ^ J))))
+
+  pub fixed-is : fixed m e ≡ minus ((j + 53) * 2 ^ 24 + digits 24 (sig / 2 ^ 21) 0) (1075 * 2 ^ 24)
+  fixed-is =
+      ap (λ (y : ℕ). minus ((rise e + size m) * 2 ^ 24 + digits 24 y 0) ((fall e + 1) * 2 ^ 24)) lead-is
+      ∙ minus-same ((rise e + size m) * 2 ^ 24 + t) ((fall e + 1) * 2 ^ 24) ((j + 53) * 2 ^ 24 + t) (1075 * 2 ^ 24) (go (rise e) (fall e) (size m) J t J-is sizes)
+    where
+      t : ℕ
+      t = digits 24 (sig / 2 ^ 21) 0
+
+      go : (r f z k x : ℕ) → k + f ≡ r + 1074 → z + k ≡ 53 + j → (r + z) * 2 ^ 24 + x + 1075 * 2 ^ 24 ≡ (j + 53) * 2 ^ 24 + x + (f + 1) * 2 ^ 24
+      go r f z k x a b = omega arith
+
+-- ---- all that the code of `ln32` asks, of a v that passes its two tests and its parts
+pub record Logged (v : Float) (sig j : ℕ) : Type 0 where
+  pub full : 2 ^ 52 ≤ sig
+  pub small : sig < 2 ^ 53
+  pub least : 873 ≤ j
+  pub most : j < 1150
+  pub is : (t : ℕ) → t ≡ digits 24 (sig / 2 ^ 21) 0 → Is (scaled (minus ((j + 53) * 2 ^ 24 + t) (1075 * 2 ^ 24))) ≡ ln v
+
+pub logged : (v : Float) → T (fits binary32 v) → Plain v → (p : Parts) → Parted v p → Logged v (p .sig) (p .j)
+unfolding ln
+logged v f q p a =
+    let m = q .0 in
+    let e = q .1 in
+    let F : Held (suc m) e = held m e (subst (λ (x : Float). T (fits binary32 x)) (q .2) f) in
+    let w : HasValue (fin false (suc m) e) (p .neg) (p .sig * 2 ^ p .j) (2 ^ 1074) = subst (λ (x : Float). HasValue x (p .neg) (p .sig * 2 ^ p .j) (2 ^ 1074)) (q .2) (a .value) in
+    record {
+      full = full (suc m) e (p .sig) (p .j) (zero-lt-suc m) F (w .1) (a .small) (a .lead);
+      small = a .small;
+      least = j-ge (suc m) e (p .sig) (p .j) (zero-lt-suc m) F (w .1) (a .small) (a .lead);
+      most = j-lt (suc m) e (p .sig) (p .j) (zero-lt-suc m) F (w .1) (a .small) (a .lead);
+      is = λ t r.
+          ap (λ (x : ℕ). Is (scaled (minus ((p .j + 53) * 2 ^ 24 + x) (1075 * 2 ^ 24)))) r
+          ∙ ap (λ (x : ℤ). Is (scaled x)) (sym (fixed-is (suc m) e (p .sig) (p .j) (zero-lt-suc m) F (w .1) (a .small) (a .lead)))
+          ∙ ap ln (sym (q .2));
+    }
+
+-- t is below 2 ^ 24, and H is what the code has for the larger part
+module _ (v : Float) (sig j t : ℕ) (G : Logged v sig j) (TL : t < 2 ^ 24) (TI : t ≡ digits 24 (sig / 2 ^ 21) 0) where
+  abbrev H : ℕ
+  H = (j + 53) * 2 ^ 24 % 2 ^ 64 + t
+
+  H-is : H ≡ (j + 53) * 2 ^ 24 + t
+  H-is = ap (λ (x : ℕ). x + t) (mod-eq-of-lt (go j (G .most)))
+    where
+      go : (i : ℕ) → i < 1150 → (i + 53) * 2 ^ 24 < 2 ^ 64
+      go i h = omega arith
+
+  pub over-fits : (H - 18035507200) * 2977044472 < 2 ^ 64
+  over-fits = go H j H-is (G .most)
+    where
+      go : (h i : ℕ) → h ≡ (i + 53) * 2 ^ 24 + t → i < 1150 → (h - 18035507200) * 2977044472 < 2 ^ 64
+      go h i a b = omega arith
+
+  pub under-fits : (18035507200 - H) * 2977044472 < 2 ^ 64
+  under-fits = go H j H-is (G .least)
+    where
+      go : (h i : ℕ) → h ≡ (i + 53) * 2 ^ 24 + t → 873 ≤ i → (18035507200 - h) * 2977044472 < 2 ^ 64
+      go h i a b = omega arith
+
+  pub over : (r : Float) → 18035507200 ≤ H → r ≡ round binary32 false ((H - 18035507200) * 2977044472) (2 ^ 56) → Is r ≡ ln v
+  over r h e =
+      ap Is e
+      ∙ ap (λ (x : ℤ). Is (scaled x)) (sym (minus-yes H 18035507200 h) ∙ ap (λ (x : ℕ). minus x 18035507200) H-is)
+      ∙ G .is t TI
+
+  pub under : (r : Float) → H < 18035507200 → r ≡ round binary32 true ((18035507200 - H) * 2977044472) (2 ^ 56) → Is r ≡ ln v
+  under r h e =
+      ap Is (e ∙ ap (λ (x : ℕ). round binary32 true (x * 2977044472) (2 ^ 56)) (step H h))
+      ∙ ap (λ (x : ℤ). Is (scaled x)) (sym (minus-no H 18035507200 h) ∙ ap (λ (x : ℕ). minus x 18035507200) H-is)
+      ∙ G .is t TI
+    where
+      step : (x : ℕ) → x < 18035507200 → 18035507200 - x ≡ suc (18035507200 - suc x)
+      step x k = omega arith
