@@ -10,3 +10,4 @@ pub mod Product
 pub mod Narrow
 pub mod Halves
 pub mod Average
+pub mod Mean
