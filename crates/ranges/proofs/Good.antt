@@ -15,6 +15,7 @@ use Rattle.ranges.proofs.Signed.{le-self, le-neg, le-trans-float, finit
 use Rattle.ranges.proofs.Rounded.{sub-number, div-number, scaled-number}
 use Rattle.ranges.proofs.Monotone.{div-mono-left, div-anti-right}
 use Rattle.ranges.proofs.Interval.{in-finite, in-widen, scale-in, mul-in, div-in, zero-le-positive, neg-in}
+use Rattle.ranges.proofs.Product.{zero-neg}
 use Rattle.ranges.proofs.Compare.{lt→le, nlt→le}
 use Rattle.ranges.proofs.Clamp.{clamp-in}
 use Rattle.ranges.proofs.Halves.{base}
@@ -89,6 +90,13 @@ old-dah d x i p r =
     (r .1) in
     (nlt→le x dahMin (finite-number x p) tt (not-T (lt x dahMin) low), nlt→le dahMax x tt (finite-number x p) (not-T (lt dahMax x) high))
 
+-- dit * dah, whose root is the boundary
+wide-product : (d h : Float) → In ditLeast ditMost d → In dahMin dahMax h → T (positive (mul binary32 d h))
+unfolding ofBits mul
+wide-product d h i j =
+    let k = mul-in binary32 ditLeast ditMost d dahMin dahMax h tt tt tt tt i j in
+    between (mul binary32 ditLeast dahMin) (mul binary32 d h) (mul binary32 ditMost dahMax) tt tt (k .0) (k .1)
+
 -- 1200 / dit
 wide-speed : (d : Float) → In ditLeast ditMost d → In speedLeast speedMost (div binary32 paris d)
 unfolding le ofBits div
@@ -145,10 +153,6 @@ paris-finite : T (finite paris)
 unfolding ofBits
 paris-finite = tt
 
-zero-neg : T (le (neg nought) nought)
-unfolding neg le
-zero-neg = tt
-
 weighted : (w : Float) → In (ofBits binary32 0x3c80_0000) (ofBits binary32 0x3f00_0000) w → Weight w
 unfolding ofBits
 weighted w i = record { above = between (ofBits binary32 0x3c80_0000) w half tt tt (i .0) (i .1); most = i .1 }
@@ -200,6 +204,9 @@ module _ (s : Settings) (G : Good s) where
       go true true k = k tt tt
       go true false k = dah-anew-in d h i j
       go false b k = dah-anew-in d h i j
+
+  pub product-positive : (d h : Float) → In (s .ditMin) (s .ditMax) d → In dahMin dahMax h → T (positive (mul binary32 d h))
+  product-positive d h i j = wide-product d h (dit-wide d i) j
 
   -- ---- speed and dit estimate
   pub speed-in : (d : Float) → In (s .ditMin) (s .ditMax) d → In speedLeast speedMost (div binary32 paris d)

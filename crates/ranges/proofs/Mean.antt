@@ -10,7 +10,7 @@ use native.Mathlib.Omega.{arith}
 use lib.IntN.{pos}
 use lib.Dec.{T, le→leb, lit≤}
 use lib.ListN.{length, take, getD}
-use lib.Ieee.{Float, nan, fin, binary32, binary64, add, sub, mul, div, neg, le, ofInt, ofBits, fits, isNan, inFloat}
+use lib.Ieee.{Float, nan, fin, binary32, binary64, add, sub, mul, div, neg, le, ofInt, ofBits, fits, inFloat}
 use lib.Ieee.Fits.{and-l, and-r}
 use lib.Ieee.Scale.{finite}
 use lib.Ieee.Positive.{positive}
@@ -18,7 +18,7 @@ use Rattle.numbers.specs.Values.{narrow}
 use Rattle.ranges.specs.Interval.{In, AllIn}
 use Rattle.ranges.specs.Limits.{nought, durationMin, durationMax}
 use Rattle.ranges.specs.Mean.{sumFrom, count, mean64, meanOf, squareOff, squaresFrom, varianceAbout}
-use Rattle.ranges.proofs.Signed.{nonneg, finite-number}
+use Rattle.ranges.proofs.Signed.{nonneg}
 use Rattle.ranges.proofs.Interval.{add-in, sub-in, over-in, in-widen, in-finite}
 use Rattle.ranges.proofs.Product.{square-in}
 use Rattle.ranges.proofs.Narrow.{narrow-between}
@@ -196,11 +196,7 @@ all-at lo hi [] i m h = absurd (not-suc-le-zero h)
 all-at lo hi (x ∷ xs) zero m h = m .0
 all-at lo hi (x ∷ xs) (suc i) m h = all-at lo hi xs i (m .1) (le-of-suc-le-suc h)
 
--- what the casts of such a loop ask
-pub duration-number : (x : Float) → In durationMin durationMax x → T (not (isNan x))
-unfolding ofBits
-duration-number x i = finite-number x (in-finite durationMin durationMax x tt tt i)
-
+-- the cast of such a count
 pub short-in : (n : ℕ) → n ≤ 12 → T (inFloat binary64 (pos n))
 unfolding inFloat
 short-in n h = le→leb n (2 ^ 53) (le-trans h (lit≤ tt))
