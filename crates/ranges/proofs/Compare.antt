@@ -1,17 +1,13 @@
 -- What a comparison in the code says: `<` that passed or failed, `<=` that passed or failed, and `&&`. Assumes nothing.
-use mathlib.Core.Path.{_≡_, refl, sym, ap, _∙_, subst}
+use mathlib.Core.Path.{_≡_, sym, ap, _∙_, subst}
 use mathlib.Core.Logic.{_⊎_, inl, inr}
-use Prim.Native.Nat.{ℕ, zero, suc, _+_, _*_, _≤_, _<_, zero-le}
-use native.Mathlib.Nat.{le-of-lt, lt-of-le-of-lt, mul-pos}
+use Prim.Native.Nat.{_+_, _*_, _≤_}
 use native.Mathlib.Omega.{arith}
-use mathlib.Core.Bool.{Bool, true, false, not, _&&_, _||_, cond}
-use lib.Dec.{T, ltb, eqb, nltb→le, ltb→lt, lt→ltb, T-not, not-T}
+use mathlib.Core.Bool.{Bool, true, false, not, _&&_, _||_}
+use lib.Dec.{T, eqb, nltb→le}
 use lib.Ieee.{Float, nan, inf, fin, up, down, le, lt, eq, isNan}
-use lib.Ieee.Fits.{and-i, eq→eqb, up-pos}
-use lib.Ieee.Bits.{is-true, is-false}
-use lib.Ieee.Positive.{positive, first-pos}
-use lib.Ieee.Scale.{finite}
-use Rattle.ranges.proofs.Signed.{from-le, from-ge, from-signs, or-l, or-split}
+use lib.Ieee.Fits.{and-i, eq→eqb}
+use Rattle.ranges.proofs.Signed.{from-le, from-ge, from-signs, or-l}
 
 pub lt→le : (x y : Float) → T (lt x y) → T (le x y)
 unfolding le

@@ -1,5 +1,5 @@
 -- Durations, from 1/64 to 262144: what is made of them stays finite and above zero. Assumes nothing.
-use mathlib.Core.Path.{_≡_, refl, sym, ap, _∙_, subst}
+use mathlib.Core.Path.{_≡_, ap}
 use mathlib.Core.Bool.{false, not}
 use Prim.Native.Nat.{ℕ, _+_, _*_, _≤_}
 use native.Mathlib.Omega.{arith}
@@ -10,7 +10,7 @@ use lib.Ieee.Positive.{den, positive, between, positive-finite}
 use lib.IntN.{pos, negsuc}
 use Rattle.ranges.specs.Interval.{In}
 use Rattle.ranges.specs.Limits.{durationMin, durationMax, idealRatio}
-use Rattle.ranges.proofs.Signed.{ps, ng, flat, le→signed, positive-ng, finite-number}
+use Rattle.ranges.proofs.Signed.{ps, ng, le→signed, positive-ng, finite-number}
 use Rattle.ranges.proofs.Rounded.{rounded-mono, div-rounded}
 use Rattle.ranges.proofs.Own.{own-rounded}
 use Rattle.ranges.proofs.Interval.{scale-in, over-in, div-in}

@@ -1,19 +1,12 @@
 -- +, -, * and / are monotone over both signs, in both formats. Assumes nothing.
-use mathlib.Core.Path.{_≡_, refl, sym, ap, _∙_, subst}
-use mathlib.Core.Logic.{_⊎_, inl, inr}
-use Prim.Native.Nat.{ℕ, zero, suc, _+_, _-_, _*_, _^_, _≤_, _<_}
-use native.Mathlib.Nat.{le-trans, le-of-eq, le-of-lt, lt-of-lt-of-le, eq-or-lt-of-le, eq-zero-or-pos, zero-mul, add-mul, mul-add, mul-comm, mul-assoc, mul-left-comm, mul-le-mul-right, le-of-mul-le-mul-right, mul-pos, zero-lt-suc, lt-irrefl, eq-of-mul-eq-mul-right}
+use mathlib.Core.Path.{_≡_, ap}
+use Prim.Native.Nat.{ℕ, _+_, _*_, _≤_}
+use native.Mathlib.Nat.{mul-le-mul-right}
 use native.Mathlib.Omega.{arith}
-use mathlib.Core.Bool.{Bool, true, false, not, _&&_, _||_, Bool·beq, cond, true≢false, false≢true}
-use lib.IntN.{ℤ, pos, negsuc}
-use lib.Dec.{T, ltb, leb, eqb, eqb→eq, ltb→lt, lt→ltb, nltb→le, eqb-refl, not-T, eqb·suc-zero}
-use lib.Pow.{pow-pos}
-use lib.Ieee.{Float, nan, inf, fin, Format, prec, emax, low, up, down, odd, units, round, neg, sum, add, sub, mul, div, le, lt, eq, fits}
-use lib.Ieee.Fits.{up-pos, down-pos, and-i, and-l, and-r, eq→eqb, round-is}
-use lib.Ieee.Exact.{HasValue, round-exact}
-use lib.Ieee.Order.{round-mono}
+use lib.Dec.{T}
+use lib.Ieee.{Float, Format, neg, add, sub, mul, div, le}
 use lib.Ieee.Scale.{finite}
-use lib.Ieee.Positive.{num, den, positive, den-pos, first-pos}
+use lib.Ieee.Positive.{den, positive}
 use Rattle.ranges.proofs.Signed.{ps, ng, flat, le→signed, le-neg, neg-finite, nonneg, nonneg-finite, nonneg-ng, positive-nonneg, positive-ng}
 use Rattle.ranges.proofs.Rounded.{rounded-mono, add-rounded, sub-is, mul-plus, div-rounded}
 
@@ -33,6 +26,7 @@ add-mono f x x' y y' p p' q q' h k =
 pub sub-mono : (f : Format) (x x' y y' : Float) → T (finite x) → T (finite x') → T (finite y) → T (finite y') → T (le x x') → T (le y' y) → T (le (sub f x y) (sub f x' y'))
 sub-mono f x x' y y' p p' q q' h k =
     rw (sub-is f x y, sub-is f x' y') (add-mono f x x' (neg y) (neg y') p p' (neg-finite y q) (neg-finite y' q') h (le-neg y' y k))
+
 -- ---- a factor that is not below zero keeps the order, over both signs
 mul-cross : (a c u v w u' v' w' : ℕ) → u * w' + v' * w ≤ u' * w + v * w' → (a * u) * (c * w') + (a * v') * (c * w) ≤ (a * u') * (c * w) + (a * v) * (c * w')
 mul-cross a c u v w u' v' w' k =
@@ -43,6 +37,7 @@ pub mul-mono-right : (f : Format) (x y y' : Float) → T (nonneg x) → T (finit
 mul-mono-right f x y y' p q q' k =
     rounded-mono f (mul f x y) (mul f x y') _ _ _ _ _ _ (mul-plus f x y p q) (mul-plus f x y' p q')
     (mul-cross (ps x) (den x) (ps y) (ng y) (den y) (ps y') (ng y') (den y') (le→signed y y' q q' k))
+
 -- ---- a quotient by a divisor above zero
 div-cross : (a b c a' b' c' u w : ℕ) → a * c' + b' * c ≤ a' * c + b * c' → (a * w) * (u * c') + (b' * w) * (u * c) ≤ (a' * w) * (u * c) + (b * w) * (u * c')
 div-cross a b c a' b' c' u w k =

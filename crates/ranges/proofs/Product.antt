@@ -1,15 +1,14 @@
 -- Products over both signs: they commute, two signs cancel, like signs give what is not below zero; squares; a division by 0.25 is a multiplication by 4. Assumes nothing.
 use mathlib.Core.Path.{_≡_, refl, sym, ap, ap₂, _∙_, subst}
-use mathlib.Core.Logic.{_⊎_, inl, inr}
-use mathlib.Core.Bool.{Bool, true, false, not, cond}
-use Prim.Native.Nat.{ℕ, zero, suc, _+_, _-_, _*_, _≤_, _<_}
+use mathlib.Core.Logic.{inl, inr}
+use mathlib.Core.Bool.{Bool, true, false, cond}
+use Prim.Native.Nat.{ℕ, _+_, _-_, _*_, _≤_}
 use native.Mathlib.Nat.{mul-comm, one-mul, mul-one, add-sub-of-le}
 use native.Mathlib.Omega.{arith}
 use lib.IntN.{ℤ, pos, negsuc}
 use lib.Dec.{T, eqb}
-use lib.Ieee.{Float, nan, inf, fin, Format, unlike, up, down, round, neg, mul, div, le}
+use lib.Ieee.{Float, nan, inf, fin, Format, binary32, unlike, up, down, round, neg, mul, div, le, ofBits}
 use lib.Ieee.Scale.{finite}
-use lib.Ieee.Positive.{den}
 use Rattle.ranges.specs.Interval.{In}
 use Rattle.ranges.specs.Limits.{nought}
 use Rattle.ranges.proofs.Signed.{ps, ng, flat, nonneg, nonneg-finite, neg-finite, neg-neg, le-neg, le-trans-float, signed→le, finite-number}
@@ -179,3 +178,8 @@ unfolding div mul
 by-quarter f nan = refl
 by-quarter f (inf s) = refl
 by-quarter f (fin s m e) = ap (λ (c : ℕ). round f (unlike s false) (m * up e * 4) c) (one-mul (down e) ∙ sym (mul-one (down e)))
+
+-- the same as the code writes it: `x / 0.25` is `x * 4.0`
+pub by-quarter32 : (x : Float) → div binary32 x (ofBits binary32 0x3e80_0000) ≡ mul binary32 x (ofBits binary32 0x4080_0000)
+unfolding ofBits
+by-quarter32 x = by-quarter binary32 x

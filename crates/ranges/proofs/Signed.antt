@@ -1,19 +1,15 @@
 -- A finite float as the signed fraction (ps - ng) / den: the order of floats is that of the fractions, is transitive, and negation turns it round. Assumes nothing.
-use mathlib.Core.Path.{_≡_, refl, sym, ap, _∙_, subst}
+use mathlib.Core.Path.{_≡_, refl, sym}
 use mathlib.Core.Logic.{_⊎_, inl, inr}
-use Prim.Native.Nat.{ℕ, zero, suc, _+_, _-_, _*_, _^_, _≤_, _<_}
-use native.Mathlib.Nat.{le-trans, le-of-eq, le-of-lt, lt-of-lt-of-le, eq-or-lt-of-le, eq-zero-or-pos, zero-mul, add-mul, mul-add, mul-comm, mul-assoc, mul-left-comm, mul-le-mul-right, le-of-mul-le-mul-right, mul-pos, zero-lt-suc, lt-irrefl, eq-of-mul-eq-mul-right}
+use Prim.Native.Nat.{ℕ, _+_, _*_, _≤_, _<_}
+use native.Mathlib.Nat.{le-of-eq, le-of-lt, eq-or-lt-of-le, eq-zero-or-pos, add-mul, mul-add, mul-comm, mul-assoc, mul-left-comm, mul-le-mul-right, le-of-mul-le-mul-right}
 use native.Mathlib.Omega.{arith}
-use mathlib.Core.Bool.{Bool, true, false, not, _&&_, _||_, Bool·beq, cond, true≢false, false≢true}
-use lib.IntN.{ℤ, pos, negsuc}
-use lib.Dec.{T, ltb, leb, eqb, eqb→eq, ltb→lt, lt→ltb, nltb→le, eqb-refl, not-T, eqb·suc-zero}
-use lib.Pow.{pow-pos}
-use lib.Ieee.{Float, nan, inf, fin, Format, prec, emax, low, up, down, odd, units, round, neg, sum, add, sub, mul, div, le, lt, eq, isNan, fits}
-use lib.Ieee.Fits.{up-pos, down-pos, and-i, and-l, and-r, eq→eqb, round-is}
-use lib.Ieee.Exact.{HasValue, round-exact}
-use lib.Ieee.Order.{round-mono}
+use mathlib.Core.Bool.{Bool, true, false, not, _&&_, _||_}
+use lib.Dec.{T, ltb, eqb, eqb→eq, ltb→lt, lt→ltb}
+use lib.Ieee.{Float, nan, inf, fin, up, down, neg, le, isNan}
+use lib.Ieee.Fits.{down-pos, and-i, and-l, and-r, eq→eqb}
 use lib.Ieee.Scale.{finite}
-use lib.Ieee.Positive.{num, den, positive, den-pos, first-pos}
+use lib.Ieee.Positive.{den, positive}
 
 -- ---- the numerator, above zero and below
 abbrev pub ps : Float → ℕ
@@ -102,6 +98,7 @@ signed→le (fin true m e) (fin true n d) p q h = from-ge (m * up e * down d) (n
 signed→le (fin true m e) (fin false n d) p q h = from-signs (m * up e * down d) (n * up d * down e)
 signed→le (fin false m e) (fin true n d) p q h =
     and-i (eqb (m * up e * down d) (n * up d * down e)) (eqb (m * up e * down d) 0) (eq→eqb {a = m * up e * down d} {b = n * up d * down e} (omega arith)) (eq→eqb {a = m * up e * down d} {b = 0} (omega arith))
+
 -- ---- what is not below zero, and what is above it
 -- not below zero
 abbrev pub nonneg : Float → Bool
@@ -168,6 +165,7 @@ le-trans-float (fin s m e) (fin t n d) (fin u i j) h k =
     let y = fin t n d in
     let z = fin u i j in
     signed→le x z tt tt (trans-cross (ps x) (ng x) (den x) (ps y) (ng y) (den y) (ps z) (ng z) (den z) (down-pos d) (le→signed x y tt tt h) (le→signed y z tt tt k))
+
 -- ---- negation
 pub neg-finite : (x : Float) → T (finite x) → T (finite (neg x))
 unfolding neg
@@ -194,6 +192,7 @@ unfolding neg
 neg-den nan = refl
 neg-den (inf s) = refl
 neg-den (fin s m e) = refl
+
 pub neg-neg : (x : Float) → neg (neg x) ≡ x
 unfolding neg
 neg-neg nan = refl
@@ -220,6 +219,7 @@ le-neg (fin false m e) (fin false n d) h = signed→le (fin true n d) (fin true 
 le-neg (fin true m e) (fin true n d) h = signed→le (fin false n d) (fin false m e) tt tt (omega (arith, le→signed (fin true m e) (fin true n d) tt tt h))
 le-neg (fin true m e) (fin false n d) h = signed→le (fin true n d) (fin false m e) tt tt (omega (arith, le→signed (fin true m e) (fin false n d) tt tt h))
 le-neg (fin false m e) (fin true n d) h = signed→le (fin false n d) (fin true m e) tt tt (omega (arith, le→signed (fin false m e) (fin true n d) tt tt h))
+
 -- ---- finite values
 pub finite-number : (x : Float) → T (finite x) → T (not (isNan x))
 unfolding isNan

@@ -6,7 +6,7 @@ use lib.Ieee.Scale.{finite}
 use lib.Ieee.Positive.{positive}
 use Rattle.ranges.specs.Interval.{In, within}
 use Rattle.ranges.specs.Limits.{durationMin, durationMax, dahMin, dahMax, idealRatio, paris, half, biasCap}
-use Rattle.ranges.specs.Settings.{Settings, standard, Good, Held}
+use Rattle.ranges.specs.Settings.{standard, Good, Held}
 use Rattle.ranges.specs.Clamp.{clamp}
 use Rattle.ranges.specs.Average.{average}
 use Rattle.ranges.proofs.Interval.{div-in}
@@ -28,7 +28,6 @@ standard-good = record {
 pub standard-held : Held standard
 unfolding fits ofBits
 standard-held = record { ratioMinHeld = tt; ratioMaxHeld = tt; ditMinHeld = tt; ditMaxHeld = tt; weightHeld = tt; leadHeld = tt; pruneHeld = tt }
-
 
 pub dit-in : (x : Float) → T (not (isNan x)) → In (standard .ditMin) (standard .ditMax) (clamp (standard .ditMin) (standard .ditMax) x)
 dit-in = G.dit-in standard standard-good
