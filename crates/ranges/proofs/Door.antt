@@ -12,7 +12,8 @@ use lib.Ieee.Positive.{positive, first-pos}
 use lib.Ieee.Scale.{finite}
 use Rattle.ranges.specs.Interval.{In}
 use Rattle.ranges.specs.Limits.{nought, durationMin, durationMax, durationRefusal}
-use Rattle.ranges.proofs.Compare.{nlt→le}
+use Rattle.ranges.proofs.Compare.{nlt→le, le→nlt}
+use Rattle.ranges.proofs.Durations.{duration-finite}
 use Rattle.ranges.proofs.Signed.{finite-number}
 
 -- ---- 0 < x and x < ∞, as the code tests it
@@ -67,3 +68,8 @@ unrefused-in x e = go (finite x) (lt x durationMin) (lt durationMax x) (finite-n
     go true false true n l h e = absurd (lt-irrefl 0 (subst (λ (z : ℕ). 0 < z) e (zero-lt-suc 6)))
     go true true c n l h e = absurd (lt-irrefl 0 (subst (λ (z : ℕ). 0 < z) e (zero-lt-suc 5)))
     go false b c n l h e = absurd (lt-irrefl 0 (subst (λ (z : ℕ). 0 < z) e (zero-lt-suc 4)))
+
+-- and a duration is not refused
+pub in-unrefused : (x : Float) → In durationMin durationMax x → durationRefusal x ≡ 0
+in-unrefused x i =
+    sym (refusal-is x true false false (is-true (finite x) (duration-finite x i)) (is-false (lt x durationMin) (le→nlt durationMin x (i .0))) (is-false (lt durationMax x) (le→nlt x durationMax (i .1))))
