@@ -19,6 +19,7 @@ use Rattle.ranges.specs.Mean.{sumFrom, mean64, meanOf, squareOff, square
 use Rattle.ranges.proofs.Interval.{add-in, sub-in, over-in, in-widen, in-finite}
 use Rattle.ranges.proofs.Product.{square-in}
 use Rattle.ranges.proofs.Narrow.{narrow-between}
+pub use Rattle.ranges.proofs.Durations.{duration-number}
 
 -- ---- a test at each number below n
 unfoldable upto : ℕ → (ℕ → Bool) → Bool
