@@ -107,7 +107,7 @@ pub fn run<L: Layer>(seed: u64, limit: Limit) -> Outcome<L::Case> {
     while match limit {
         Limit::Count(n) => o.seeds < n,
         // the clock is read once in a while
-        Limit::Time(t) => o.seeds % 256 != 0 || start.elapsed() < t,
+        Limit::Time(t) => o.seeds % 16 != 0 || start.elapsed() < t,
     } {
         let this = seed.wrapping_add(o.seeds);
         let case = L::random(&mut Random::new(this));
