@@ -9,5 +9,6 @@ pub mod log01;
 #[cfg(manta)]
 #[allow(dead_code)]
 pub mod manta;
+pub mod patterns;
 pub mod random;
 pub mod shrink;
