@@ -151,11 +151,13 @@ pub fn report<L: Layer>(seed: u64, limit: Limit) -> bool {
         print_difference("case", &f.case, &f.difference);
         print_difference("smallest", &f.least, &f.least_difference);
     }
+    let seeds = match o.seeds {
+        0 => "no seed".to_string(),
+        n => format!("seeds {} to {}", o.seed, o.seed.wrapping_add(n - 1)),
+    };
     println!(
-        "{}: seeds {} to {}, {} cases, {} results compared, {} differences, {:.1} s",
+        "{}: {seeds}, {} cases, {} results compared, {} differences, {:.1} s",
         L::NAME,
-        o.seed,
-        o.seed.wrapping_add(o.seeds.saturating_sub(1)),
         o.cases,
         o.results,
         usize::from(o.found.is_some()),
