@@ -12,3 +12,4 @@ pub mod manta;
 pub mod patterns;
 pub mod random;
 pub mod shrink;
+pub mod states;
