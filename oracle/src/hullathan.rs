@@ -1,0 +1,32 @@
+//! The proved library, as `rt staticlib exports` writes it. Each function takes plain numbers, answers 0 or the number of a
+//! refusal, and leaves its result behind the reference; after a refusal what stood there is untouched.
+
+pub mod numbers {
+
+    mod c {
+        extern "C" {
+            pub fn hullathan_ln(v: f32, out: &mut f32) -> u8;
+            pub fn hullathan_sqrt32(v: f32, out: &mut f32) -> u8;
+            pub fn hullathan_sqrt64(v: f64, out: &mut f64) -> u8;
+            pub fn hullathan_narrow(v: f64, out: &mut f32) -> u8;
+        }
+    }
+
+    // Safety of each: the library is proved to take every number, and to touch nothing but what `out` refers to.
+
+    pub fn ln(v: f32, out: &mut f32) -> u8 {
+        unsafe { c::hullathan_ln(v, out) }
+    }
+
+    pub fn sqrt32(v: f32, out: &mut f32) -> u8 {
+        unsafe { c::hullathan_sqrt32(v, out) }
+    }
+
+    pub fn sqrt64(v: f64, out: &mut f64) -> u8 {
+        unsafe { c::hullathan_sqrt64(v, out) }
+    }
+
+    pub fn narrow(v: f64, out: &mut f32) -> u8 {
+        unsafe { c::hullathan_narrow(v, out) }
+    }
+}
