@@ -13,6 +13,10 @@ pub mod numbers {
             pub fn hullathan_abs32(v: f32, out: &mut f32) -> u8;
             pub fn hullathan_abs64(v: f64, out: &mut f64) -> u8;
             pub fn hullathan_is_finite32(v: f32, out: &mut bool) -> u8;
+            pub fn hullathan_negative32(v: f32, out: &mut bool) -> u8;
+            pub fn hullathan_root32(v: f32, out: &mut f32) -> u8;
+            pub fn hullathan_root64(v: f64, out: &mut f64) -> u8;
+            pub fn hullathan_below_root(x: f32, v: f32, out: &mut bool) -> u8;
             pub fn hullathan_total_less32(a: f32, b: f32, out: &mut bool) -> u8;
         }
     }
@@ -57,5 +61,21 @@ pub mod numbers {
 
     pub fn total_less32(a: f32, b: f32, out: &mut bool) -> u8 {
         unsafe { c::hullathan_total_less32(a, b, out) }
+    }
+
+    pub fn negative32(v: f32, out: &mut bool) -> u8 {
+        unsafe { c::hullathan_negative32(v, out) }
+    }
+
+    pub fn root32(v: f32, out: &mut f32) -> u8 {
+        unsafe { c::hullathan_root32(v, out) }
+    }
+
+    pub fn root64(v: f64, out: &mut f64) -> u8 {
+        unsafe { c::hullathan_root64(v, out) }
+    }
+
+    pub fn below_root(x: f32, v: f32, out: &mut bool) -> u8 {
+        unsafe { c::hullathan_below_root(x, v, out) }
     }
 }

@@ -162,8 +162,40 @@ pub fn check_narrow(bits: u64) -> Result<(), Difference> {
     )
 }
 
-/// What takes one float and refuses none: `abs` and `is_finite`.
-fn check_one(single: u32, double: u64) -> Result<(), Difference> {
+/// The roots that take every float, as the layers above call them.
+pub fn check_root32(bits: u32) -> Result<(), Difference> {
+    let v = f32::from_bits(bits);
+    compare(
+        f32::from_bits(!bits),
+        Ok(v.sqrt()),
+        |out| ours::root32(v, out),
+        || format!("root32 of {}", v.show()),
+    )
+}
+
+fn check_root64(bits: u64) -> Result<(), Difference> {
+    let v = f64::from_bits(bits);
+    compare(
+        f64::from_bits(!bits),
+        Ok(v.sqrt()),
+        |out| ours::root64(v, out),
+        || format!("root64 of {}", v.show()),
+    )
+}
+
+/// `x < v.sqrt()`, which the library mostly decides without a root.
+fn check_below_root(x: f32, v: f32) -> Result<(), Difference> {
+    let rust = x < v.sqrt();
+    compare(
+        !rust,
+        Ok(rust),
+        |out| ours::below_root(x, v, out),
+        || format!("{} below the root of {}", x.show(), v.show()),
+    )
+}
+
+/// `abs`.
+fn check_abs(single: u32, double: u64) -> Result<(), Difference> {
     let (v, w) = (f32::from_bits(single), f64::from_bits(double));
     compare(
         f32::from_bits(!single),
@@ -176,12 +208,23 @@ fn check_one(single: u32, double: u64) -> Result<(), Difference> {
         Ok(w.abs()),
         |out| ours::abs64(w, out),
         || format!("abs64 of {}", w.show()),
-    )?;
+    )
+}
+
+/// `is_finite`, and the sign, which a NaN does not have in the library.
+fn check_kind(v: f32) -> Result<(), Difference> {
     compare(
         !v.is_finite(),
         Ok(v.is_finite()),
         |out| ours::is_finite32(v, out),
         || format!("is_finite32 of {}", v.show()),
+    )?;
+    let minus = v.is_sign_negative() && !v.is_nan();
+    compare(
+        !minus,
+        Ok(minus),
+        |out| ours::negative32(v, out),
+        || format!("negative32 of {}", v.show()),
     )
 }
 
@@ -225,12 +268,13 @@ fn check_total_less(a: f32, b: f32) -> Result<(), Difference> {
     )
 }
 
-/// Two more floats beside one: it again, its negative or what lies next to it, or others.
+/// Two more floats beside one: it again, its negative, what lies next to it or to its root, or others.
 fn more(random: &mut Random, first: u32) -> [u32; 2] {
-    [0; 2].map(|_| match random.below(6) {
+    [0; 2].map(|_| match random.below(8) {
         0 => first,
         1 => first ^ SIGN32,
         2 => near32(first, random),
+        3 | 4 => near32(f32::from_bits(first).sqrt().to_bits(), random),
         _ => single(random),
     })
 }
@@ -264,16 +308,20 @@ impl Layer for Numbers {
     }
 
     fn run(case: &Input) -> Result<u64, Difference> {
+        let [v, a, b] = [case.single, case.more[0], case.more[1]].map(f32::from_bits);
         check_ln(case.single)?;
         check_sqrt32(case.single)?;
         check_sqrt64(case.double)?;
+        check_root32(case.single)?;
+        check_root64(case.double)?;
+        check_below_root(a, v)?;
         check_narrow(case.double)?;
-        check_one(case.single, case.double)?;
-        let [v, a, b] = [case.single, case.more[0], case.more[1]].map(f32::from_bits);
+        check_abs(case.single, case.double)?;
+        check_kind(v)?;
         check_clamp(v, a, b)?;
         check_max(v, a)?;
         check_total_less(v, a)?;
-        Ok(10)
+        Ok(14)
     }
 
     fn smaller(case: &Input) -> Vec<Input> {
