@@ -84,7 +84,8 @@ fn square(k: u64, fours: i32) -> f64 {
     (s >> cut) as u64 as f64 * 2f64.powi(cut as i32 + 2 * fours)
 }
 
-fn near32(bits: u32, random: &mut Random) -> u32 {
+/// A pattern, or one of the four before it or after it.
+pub fn near32(bits: u32, random: &mut Random) -> u32 {
     bits.wrapping_add(random.below(9) as u32).wrapping_sub(4)
 }
 
