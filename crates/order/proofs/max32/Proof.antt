@@ -1,8 +1,8 @@
--- `numbers::order::max32` meets its contract. Assumes nothing.
+-- `order::max32` meets its contract. Assumes nothing.
 use mathlib.Core.Path.{sym, _∙_}
-use Rattle.numbers.proofs.OrderLaws.{nan-is}
-use Rattle.numbers.proofs.order.max32.Statement.{statement}
-use Rattle.numbers.proofs.order.max32.Tie as tie
+use Rattle.order.proofs.Laws.{nan-is}
+use Rattle.order.proofs.max32.Statement.{statement}
+use Rattle.order.proofs.max32.Tie as tie
 
 returns : tie.Need-returns
 returns c = rw (sym (nan-is (c .before .args .a)) ∙ c .if1 .taken)

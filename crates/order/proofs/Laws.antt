@@ -7,13 +7,11 @@ use native.Mathlib.Omega.{arith}
 use lib.Dec.{T, ltb, eqb, eqb→eq}
 use lib.IntN.{ℤ, pos, negsuc}
 use lib.Pow.{pow-lt}
-use lib.Ieee.{Float, nan, inf, fin, Format, binary32, binary64, up, down, fits, isNan, ofBits, lt, eq, ne, neg}
+use lib.Ieee.{Float, nan, inf, fin, Format, binary32, binary64, up, down, fits, isNan, ofBits, lt, eq, ne, neg, div}
 use lib.Ieee.Fits.{up-pos}
-use lib.Ieee.Exact.{HasValue}
-use lib.Ieee.Scale.{finite}
 use borrow.Author.Tests.{lt-ltb, ltb-true, eq-eqb}
-use Rattle.numbers.specs.Order.{abs, negative, totalLess}
+use Rattle.order.specs.Order.{abs, negative, totalLess}
 use Rattle.numbers.proofs.Plain.{origin, zero-is, equals-zero, Zero, zero-by}
 
 -- ---- below zero, a zero, or neither
 not-under : (x d : ℕ) → x * 1 < 0 * 1 * d → ⊥
@@ -66,14 +64,18 @@ module _ (f : Format) (v : Float) where
       ∙ ap (fin false 0) (sym (zero-form f (z .0) (z .1) (subst (λ (x : Float). T (fits f x)) (z .2) h)))
       ∙ ap abs (sym (z .2))
 
-  pub zero-finite : eq v (ofBits f 0) ≡ true → T (finite v)
-  zero-finite a = subst (λ (x : Float). T (finite x)) (sym (zero-by f v a .2)) tt
+-- one over a zero has the zero's sign
+over-zero : (s : Bool) (e : ℤ) → lt (div binary32 (ofBits binary32 0x3f80_0000) (fin s zero e)) (ofBits binary32 0) ≡ s
+unfolding lt div ofBits
+over-zero true e = refl
+over-zero false e = refl
 
--- the sign of a value by its parts
-pub sign-of : (v : Float) (s : Bool) (a c : ℕ) → HasValue v s a c → s ≡ negative v
-sign-of nan s a c h = absurd h
-sign-of (inf t) s a c h = absurd h
-sign-of (fin t m e) s a c h = sym (h .0)
+pub zero-sign : (v : Float) → eq v (ofBits binary32 0) ≡ true → lt (div binary32 (ofBits binary32 0x3f80_0000) v) (ofBits binary32 0) ≡ negative v
+zero-sign v h =
+    let z = zero-by binary32 v h in
+    ap (λ (x : Float). lt (div binary32 (ofBits binary32 0x3f80_0000) x) (ofBits binary32 0)) (z .2)
+    ∙ over-zero (z .0) (z .1)
+    ∙ ap negative (sym (z .2))
 
 -- ---- `a != a`
 same : (s : Bool) → Bool·beq s s ≡ true

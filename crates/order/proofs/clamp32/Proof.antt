@@ -1,6 +1,6 @@
--- `numbers::order::clamp32` meets its contract. Assumes nothing.
-use Rattle.numbers.proofs.order.clamp32.Statement.{statement}
-use Rattle.numbers.proofs.order.clamp32.Tie as tie
+-- `order::clamp32` meets its contract. Assumes nothing.
+use Rattle.order.proofs.clamp32.Statement.{statement}
+use Rattle.order.proofs.clamp32.Tie as tie
 
 returns : tie.Need-returns
 returns c = rw (c .if1 .taken)

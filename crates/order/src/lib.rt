@@ -1,8 +1,7 @@
 // What Rust has for the order of floats: clamp, max, abs, is_finite and total_cmp, on every value.
-use crate::rounding::take_apart;
 ghost use mathlib.Core.Path.{_≡_};
 ghost use lib.Ieee.Scale.{finite};
-ghost use Rattle.numbers.specs.Order.{clamp, larger, abs, negative, totalLess};
+ghost use Rattle.order.specs.Order.{clamp, larger, abs, negative, totalLess};
 
 // v, or the limit that it is beyond: Rust's `v.clamp(lo, hi)`.
 pub fn clamp32(v: f32, lo: f32, hi: f32) -> f32
@@ -69,7 +68,7 @@ pub fn negative32(v: f32) -> bool
         return true;
     }
     if v == 0.0 {
-        return take_apart(v as f64).neg;
+        return 1.0 / v < 0.0;
     }
     false
 }

@@ -1,7 +1,7 @@
--- `numbers::order::is_finite32` meets its contract. Assumes nothing.
+-- `order::is_finite32` meets its contract. Assumes nothing.
 use Rattle.numbers.proofs.Plain.{top32-is, top32-number, finite-by, not-finite-by}
-use Rattle.numbers.proofs.order.is_finite32.Statement.{statement}
-use Rattle.numbers.proofs.order.is_finite32.Tie as tie
+use Rattle.order.proofs.is_finite32.Statement.{statement}
+use Rattle.order.proofs.is_finite32.Tie as tie
 
 float-from-bits-top : tie.Need-float-from-bits-top
 float-from-bits-top c = top32-number

@@ -1,11 +1,11 @@
--- `numbers::order::total_less32` meets its contract. Assumes nothing.
+-- `order::total_less32` meets its contract. Assumes nothing.
 use mathlib.Core.Path.{_≡_, sym, ap, _∙_}
 use mathlib.Core.Bool.{true, false, not}
 use lib.Ieee.{isNan}
-use Rattle.numbers.proofs.OrderLaws.{nan-is, total-nan, total-over, total-less, total-zeros, total-plus, total-more}
+use Rattle.order.proofs.Laws.{nan-is, total-nan, total-over, total-less, total-zeros, total-plus, total-more}
 use borrow.Author.Needs.{needs}
-use Rattle.numbers.proofs.order.total_less32.Statement.{statement}
-use Rattle.numbers.proofs.order.total_less32.Tie as tie
+use Rattle.order.proofs.total_less32.Statement.{statement}
+use Rattle.order.proofs.total_less32.Tie as tie
 
 nan : (c : tie.Then1) → isNan (c .before .args .a) ≡ true
 nan c = sym (nan-is (c .before .args .a)) ∙ c .if1 .taken

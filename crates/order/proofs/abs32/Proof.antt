@@ -1,10 +1,10 @@
--- `numbers::order::abs32` meets its contract. Assumes nothing.
+-- `order::abs32` meets its contract. Assumes nothing.
 use mathlib.Core.Path.{sym, subst}
 use lib.Dec.{T}
 use lib.Ieee.{binary32}
-use Rattle.numbers.proofs.OrderLaws.{below-by, rest-by, abs-zero}
-use Rattle.numbers.proofs.order.abs32.Statement.{statement}
-use Rattle.numbers.proofs.order.abs32.Tie as tie
+use Rattle.order.proofs.Laws.{below-by, rest-by, abs-zero}
+use Rattle.order.proofs.abs32.Statement.{statement}
+use Rattle.order.proofs.abs32.Tie as tie
 
 returns : tie.Need-returns
 returns c = below-by binary32 (c .before .args .v) (c .if1 .taken) .0
