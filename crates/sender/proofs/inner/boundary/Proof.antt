@@ -1,0 +1,21 @@
+use borrow.Author.Needs.{needs}
+use Rattle.sender.proofs.inner.boundary.Statement.{statement}
+use Rattle.sender.proofs.inner.boundary.Tie as tie
+use Rattle.sender.proofs.inner.boundary.Reads as reads
+use Rattle.sender.proofs.inner.boundary.Lts as lts
+use Rattle.numbers.proofs.inner.root32.Reads as root32-reads
+
+-- src/inner.rt:135:9
+returns : tie.Need-returns
+returns c = ?
+
+-- src/inner.rt:137:5
+root32-requires : tie.Need-root32-requires
+root32-requires c κs = search needs
+
+-- src/inner.rt:131:1
+returns-2 : tie.Need-returns-2
+returns-2 c = ?
+
+pub boundary-spec : {M : Type 1} → statement M
+boundary-spec = tie.close (tie.spec returns root32-requires returns-2)

@@ -1,0 +1,21 @@
+use borrow.Author.Needs.{needs}
+use Rattle.sender.proofs.inner.class_observe.Statement.{statement}
+use Rattle.sender.proofs.inner.class_observe.Tie as tie
+use Rattle.sender.proofs.inner.class_observe.Reads as reads
+use Rattle.sender.proofs.inner.class_observe.Lts as lts
+use Rattle.sender.proofs.inner.one_more.Reads as one-more-reads
+
+-- src/inner.rt:74:9
+returns : tie.Need-returns
+returns c = ?
+
+-- src/inner.rt:86:12
+one-more-requires : tie.Need-one-more-requires
+one-more-requires c κs = search needs
+
+-- src/inner.rt:70:1
+returns-2 : tie.Need-returns-2
+returns-2 c = ?
+
+pub class-observe-spec : {M : Type 1} → statement M
+class-observe-spec = tie.close (tie.spec returns one-more-requires returns-2)

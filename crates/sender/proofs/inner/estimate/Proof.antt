@@ -1,0 +1,15 @@
+use Rattle.sender.proofs.inner.estimate.Statement.{statement}
+use Rattle.sender.proofs.inner.estimate.Tie as tie
+use Rattle.sender.proofs.inner.estimate.Reads as reads
+use Rattle.sender.proofs.inner.estimate.Lts as lts
+
+-- src/inner.rt:175:9
+returns : tie.Need-returns
+returns c = ?
+
+-- src/inner.rt:171:1
+returns-2 : tie.Need-returns-2
+returns-2 c = ?
+
+pub estimate-spec : {M : Type 1} → statement M
+estimate-spec = tie.close (tie.spec returns returns-2)

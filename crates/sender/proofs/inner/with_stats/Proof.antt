@@ -1,0 +1,60 @@
+use borrow.Author.Needs.{needs}
+use Rattle.sender.proofs.inner.with_stats.Statement.{statement}
+use Rattle.sender.proofs.inner.with_stats.Tie as tie
+use Rattle.sender.proofs.inner.with_stats.Reads as reads
+use Rattle.sender.proofs.inner.with_stats.Lts as lts
+
+-- src/inner.rt:51:54
+enum-told : tie.Need-enum-told
+enum-told c = search needs
+
+-- src/inner.rt:52:56
+enum-told-2 : tie.Need-enum-told-2
+enum-told-2 c = search needs
+
+-- src/inner.rt:53:69
+enum-told-3 : tie.Need-enum-told-3
+enum-told-3 c = search needs
+
+-- src/inner.rt:54:63
+enum-told-4 : tie.Need-enum-told-4
+enum-told-4 c = search needs
+
+-- src/inner.rt:55:63
+enum-told-5 : tie.Need-enum-told-5
+enum-told-5 c = search needs
+
+-- src/inner.rt:47:1
+returns : tie.Need-returns
+returns c = ?
+
+-- src/inner.rt:47:1
+returns-2 : tie.Need-returns-2
+returns-2 c = ?
+
+-- src/inner.rt:47:1
+returns-3 : tie.Need-returns-3
+returns-3 c = ?
+
+-- src/inner.rt:47:1
+returns-4 : tie.Need-returns-4
+returns-4 c = ?
+
+-- src/inner.rt:47:1
+returns-5 : tie.Need-returns-5
+returns-5 c = ?
+
+pub with-stats-spec : {M : Type 1} → statement M
+with-stats-spec =
+    tie.close
+    (tie.spec
+    enum-told
+    enum-told-2
+    enum-told-3
+    enum-told-4
+    enum-told-5
+    returns
+    returns-2
+    returns-3
+    returns-4
+    returns-5)
