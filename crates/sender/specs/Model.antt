@@ -54,11 +54,11 @@ put WordGap c t = record { dot = t .dot; dash = t .dash; elementGap = t .element
 
 -- ---- the view of the program's structs: "numbers marked absent are no part of a state"
 
-abbrev pub counted : Float → Float → ℕ → Option Class
-counted m v n = cond (eqb n 0) none (some (record { mean = m; var = v; n = n }))
+abbrev pub sampled : Float → Float → ℕ → Option Class
+sampled m v n = cond (eqb n 0) none (some (record { mean = m; var = v; n = n }))
 
 abbrev pub viewClass : ClassStats → Option Class
-viewClass s = counted (s .mean .0) (s .var) (s .n)
+viewClass s = sampled (s .mean .0) (s .var) (s .n)
 
 abbrev pub view : SenderTiming → Timing
 view s = record {

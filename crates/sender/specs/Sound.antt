@@ -18,4 +18,4 @@ classSound (some c) = within classMin classMax (c .mean) && varSound (c .var)
 
 unfoldable pub sound : Timing → Bool
 unfolding classSound
-sound t = classSound (t .dot) && (classSound (t .dash) && (classSound (t .elementGap) && (classSound (t .charGap) && classSound (t .wordGap))))
+sound t = classSound (t .dot) && classSound (t .dash) && classSound (t .elementGap) && classSound (t .charGap) && classSound (t .wordGap)

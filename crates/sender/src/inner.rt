@@ -17,10 +17,10 @@ ghost use mathlib.Core.Option.{some};
 ghost use Prim.Native.Nat.{_+_, min};
 ghost use lib.Dec.{T};
 ghost use Rattle.ranges.specs.Interval.{In};
-ghost use Rattle.ranges.specs.Limits.{durationMin, durationMax};
+ghost use Rattle.ranges.specs.Limits.{durationMin, durationMax, classMin, classMax};
 ghost use Rattle.sender.specs.Constants.{ditMin, ditMax};
 ghost use Rattle.sender.specs.Model.{view, viewClass, viewEstimate, viewEstimates, statsOf, withStats};
-ghost use Rattle.sender.specs.Sound.{sound};
+ghost use Rattle.sender.specs.Sound.{classSound, sound};
 ghost use Rattle.sender.specs.Steps.{observed, observedClass, dits, counted, boundary, pauses, charGapOr};
 ghost use Rattle.sender.specs.Answers.{ofLength, ofRatio, meanSaid, ratioSaid, wordSaid};
 
@@ -68,7 +68,9 @@ pub(crate) fn one_more(n: u32) -> u32
 
 // One more sample of a class: the Rust's `ClassStats::observe`.
 pub(crate) fn class_observe(s: ClassStats, x: Dits) -> ClassStats
-    ensures { λ r. ⌜ viewClass r ≡ some (observedClass (viewClass s) (x .0)) ⌝ }
+    requires { ⌜ T (classSound (viewClass s)) ⌝ }
+    requires { ⌜ In classMin classMax (x .0) ⌝ }
+    ensures { λ r. ⌜ (viewClass r ≡ some (observedClass (viewClass s) (x .0))) × T (classSound (viewClass r)) ⌝ }
 {
     if s.n == 0 {
         return ClassStats {

@@ -1,3 +1,11 @@
+use mathlib.Core.Path.{refl, sym, _∙_}
+use mathlib.Core.Bool.{true, false}
+use lib.Ieee.{ofBits, le}
+use lib.Ieee.Scale.{finite}
+use Rattle.ranges.specs.Limits.{nought}
+use Rattle.sender.proofs.Tests.{class-sound-is}
+use Rattle.sender.specs.Sound.{classSound}
+use lib.Dec.{eqb}
 use borrow.Author.Needs.{needs}
 use Rattle.sender.proofs.door.is_class_sound.Statement.{statement}
 use Rattle.sender.proofs.door.is_class_sound.Tie as tie
@@ -8,7 +16,8 @@ use Rattle.ranges.proofs.within.Reads as within-reads
 
 -- src/door.rt:18:9
 returns : tie.Need-returns
-returns c = ?
+unfolding classSound
+returns c = rw (c .if1 .taken)
 
 -- src/door.rt:20:8
 within-requires : tie.Need-within-requires
@@ -20,15 +29,23 @@ is-finite-requires c κs = search needs
 
 -- src/door.rt:22:13
 returns-2 : tie.Need-returns-2
-returns-2 c = ?
+unfolding ofBits
+returns-2 c =
+    let s = c .before .before .before .before .before .before .before .args .s in
+    class-sound-is (s .mean .0) (s .var) (s .n) true true _ (c .before .before .before .before .before .if1 .left) (sym (c .before .before .before .if2 .taken) ∙ c .before .before .before .before .within .ensures) (c .before .if3 .taken) (c .is-finite .ensures)
 
 -- src/door.rt:14:1
 returns-3 : tie.Need-returns-3
-returns-3 c = ?
+unfolding ofBits
+returns-3 c =
+    let s = c .before .before .before .before .before .before .args .s in
+    class-sound-is (s .mean .0) (s .var) (s .n) true false (finite (s .var)) (c .before .before .before .before .if1 .left) (sym (c .before .before .if2 .taken) ∙ c .before .before .before .within .ensures) (c .if3 .left) refl
 
 -- src/door.rt:14:1
 returns-4 : tie.Need-returns-4
-returns-4 c = ?
+returns-4 c =
+    let s = c .before .before .before .before .args .s in
+    class-sound-is (s .mean .0) (s .var) (s .n) false (le nought (s .var)) (finite (s .var)) (c .before .before .if1 .left) (sym (c .if2 .left) ∙ c .before .within .ensures) refl refl
 
 pub is-class-sound-spec : {M : Type 1} → statement M
 is-class-sound-spec =

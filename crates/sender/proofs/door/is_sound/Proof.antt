@@ -1,3 +1,4 @@
+use Rattle.sender.specs.Sound.{sound}
 use borrow.Author.Needs.{needs}
 use Rattle.sender.proofs.door.is_sound.Statement.{statement}
 use Rattle.sender.proofs.door.is_sound.Tie as tie
@@ -27,7 +28,8 @@ is-class-sound-requires-5 c κs = search needs
 
 -- src/door.rt:29:1
 returns : tie.Need-returns
-returns c = ?
+unfolding sound
+returns c = simp (c .is-class-sound5 .ensures, c .before .is-class-sound4 .ensures, c .before .before .is-class-sound3 .ensures, c .before .before .before .is-class-sound2 .ensures, c .before .before .before .before .is-class-sound .ensures)
 
 pub is-sound-spec : {M : Type 1} → statement M
 is-sound-spec =

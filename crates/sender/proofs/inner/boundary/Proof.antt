@@ -1,3 +1,6 @@
+use Rattle.sender.specs.Steps.{boundary}
+use Rattle.sender.proofs.Views.{none-at, some-at}
+use Rattle.sender.proofs.Readings.{nominal-root}
 use borrow.Author.Needs.{needs}
 use Rattle.sender.proofs.inner.boundary.Statement.{statement}
 use Rattle.sender.proofs.inner.boundary.Tie as tie
@@ -7,7 +10,8 @@ use Rattle.numbers.proofs.inner.root32.Reads as root32-reads
 
 -- src/inner.rt:135:9
 returns : tie.Need-returns
-returns c = ?
+unfolding boundary
+returns c = let w = c .before .before .before .args .word-gap in rw (none-at (w .mean .0) (w .var) (w .n) (c .before .before .if1 .taken), nominal-root)
 
 -- src/inner.rt:137:5
 root32-requires : tie.Need-root32-requires
@@ -15,7 +19,8 @@ root32-requires c κs = search needs
 
 -- src/inner.rt:131:1
 returns-2 : tie.Need-returns-2
-returns-2 c = ?
+unfolding boundary
+returns-2 c = let w = c .before .before .before .before .before .args .word-gap in rw (some-at (w .mean .0) (w .var) (w .n) (c .before .before .before .if1 .left)) (c .root32 .ensures)
 
 pub boundary-spec : {M : Type 1} → statement M
 boundary-spec = tie.close (tie.spec returns root32-requires returns-2)

@@ -1,3 +1,7 @@
+use lib.Ieee.{ofBits}
+use Rattle.sender.specs.Steps.{observedClass}
+use Rattle.sender.proofs.Views.{none-at, some-at}
+use Rattle.sender.proofs.Samples.{first-sound, next-sound, counted-some}
 use borrow.Author.Needs.{needs}
 use Rattle.sender.proofs.inner.class_observe.Statement.{statement}
 use Rattle.sender.proofs.inner.class_observe.Tie as tie
@@ -7,7 +11,10 @@ use Rattle.sender.proofs.inner.one_more.Reads as one-more-reads
 
 -- src/inner.rt:74:9
 returns : tie.Need-returns
-returns c = ?
+unfolding observedClass ofBits
+returns c =
+    let a = c .before .before .args in
+    (rw (none-at (a .s .mean .0) (a .s .var) (a .s .n) (c .if1 .taken)), first-sound (a .x .0) (c .before .before .pre .1))
 
 -- src/inner.rt:86:12
 one-more-requires : tie.Need-one-more-requires
@@ -15,6 +22,7 @@ one-more-requires c κs = search needs
 
 -- src/inner.rt:70:1
 returns-2 : tie.Need-returns-2
+unfolding observedClass
 returns-2 c = ?
 
 pub class-observe-spec : {M : Type 1} → statement M

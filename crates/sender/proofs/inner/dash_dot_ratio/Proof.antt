@@ -1,3 +1,9 @@
+use mathlib.Core.Path.{sym, ap}
+use Rattle.sender.specs.declared.TimingClass.the-variants.{Dot, Dash}
+use Rattle.sender.specs.Model.{view, viewClass}
+use Rattle.sender.specs.Answers.{ratio, optional}
+use Rattle.sender.proofs.Views.{sound-at}
+use Rattle.sender.proofs.Readings.{few-dots, few-dashes, ratio-of}
 use Rattle.sender.proofs.inner.dash_dot_ratio.Statement.{statement}
 use Rattle.sender.proofs.inner.dash_dot_ratio.Tie as tie
 use Rattle.sender.proofs.inner.dash_dot_ratio.Reads as reads
@@ -5,15 +11,18 @@ use Rattle.sender.proofs.inner.dash_dot_ratio.Lts as lts
 
 -- src/inner.rt:121:9
 returns : tie.Need-returns
-returns c = ?
+returns c = let s = c .before .before .before .before .args .s in sym (ap (optional ratio) (few-dots (s .dot) (viewClass (s .dash)) (c .if1 .taken)))
 
 -- src/inner.rt:124:9
 returns-2 : tie.Need-returns-2
-returns-2 c = ?
+returns-2 c = let s = c .before .before .before .before .before .before .args .s in sym (ap (optional ratio) (few-dashes (s .dash) (viewClass (s .dot)) (c .if2 .taken)))
 
 -- src/inner.rt:114:1
 returns-3 : tie.Need-returns-3
-returns-3 c = ?
+returns-3 c =
+    let b = c .before .before .before .before .before .before .before .before in
+    let s = b .args .s in
+    sym (ap (optional ratio) (ratio-of (s .dot) (s .dash) (sound-at Dot (view s) (b .pre)) (sound-at Dash (view s) (b .pre)) ?a ?b))
 
 pub dash-dot-ratio-spec : {M : Type 1} → statement M
 dash-dot-ratio-spec = tie.close (tie.spec returns returns-2 returns-3)

@@ -1,3 +1,4 @@
+use mathlib.Core.Path.{refl}
 use borrow.Author.Needs.{needs}
 use Rattle.sender.proofs.inner.estimates.Statement.{statement}
 use Rattle.sender.proofs.inner.estimates.Tie as tie
@@ -27,7 +28,7 @@ estimate-requires-5 c κs = search needs
 
 -- src/inner.rt:186:1
 returns : tie.Need-returns
-returns c = ?
+returns c = (refl, simp (c .estimate5 .ensures, c .before .estimate4 .ensures, c .before .before .estimate3 .ensures, c .before .before .before .estimate2 .ensures, c .before .before .before .before .estimate .ensures))
 
 pub estimates-spec : {M : Type 1} → statement M
 estimates-spec =

@@ -1,3 +1,4 @@
+use Rattle.sender.specs.Steps.{pauses}
 use borrow.Author.Needs.{needs}
 use Rattle.sender.proofs.inner.is_pause.Statement.{statement}
 use Rattle.sender.proofs.inner.is_pause.Tie as tie
@@ -16,7 +17,8 @@ max32-requires c κs = search needs
 
 -- src/inner.rt:162:1
 returns : tie.Need-returns
-returns c = ?
+unfolding pauses
+returns c = rw (c .before .max32 .ensures, c .before .before .char-gap-or .ensures)
 
 pub is-pause-spec : {M : Type 1} → statement M
 is-pause-spec = tie.close (tie.spec char-gap-or-requires max32-requires returns)

@@ -7,19 +7,19 @@ use Rattle.sender.proofs.inner.class_observe.Reads as class-observe-rea
 use Rattle.sender.proofs.inner.stats.Reads as stats-reads
 use Rattle.sender.proofs.inner.with_stats.Reads as with-stats-reads
 
--- src/inner.rt:98:30
+-- src/inner.rt:100:30
 stats-requires : tie.Need-stats-requires
 stats-requires c κs = search needs
 
--- src/inner.rt:98:9
+-- src/inner.rt:100:9
 class-observe-requires : tie.Need-class-observe-requires
-class-observe-requires c κs = search needs
+class-observe-requires c κs = ?
 
--- src/inner.rt:99:5
+-- src/inner.rt:101:5
 with-stats-requires : tie.Need-with-stats-requires
 with-stats-requires c κs = search needs
 
--- src/inner.rt:91:1
+-- src/inner.rt:93:1
 returns : tie.Need-returns
 returns c = ?
 

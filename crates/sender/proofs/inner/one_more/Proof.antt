@@ -1,3 +1,7 @@
+use mathlib.Core.Path.{sym, _∙_}
+use native.Mathlib.Nat.{min-eq-left, min-eq-right}
+use native.Mathlib.Omega.{arith}
+use Rattle.sender.specs.Steps.{counted}
 use borrow.Author.Needs.{needs}
 use Rattle.sender.proofs.inner.one_more.Statement.{statement}
 use Rattle.sender.proofs.inner.one_more.Tie as tie
@@ -6,7 +10,8 @@ use Rattle.sender.proofs.inner.one_more.Lts as lts
 
 -- src/inner.rt:64:9
 returns : tie.Need-returns
-returns c = ?
+unfolding counted
+returns c = c .if1 .taken ∙ sym (min-eq-right (omega arith))
 
 -- src/inner.rt:66:5
 add-result : tie.Need-add-result
@@ -14,7 +19,8 @@ add-result c = search needs
 
 -- src/inner.rt:60:1
 returns-2 : tie.Need-returns-2
-returns-2 c = ?
+unfolding counted
+returns-2 c = sym (min-eq-left (omega arith))
 
 pub one-more-spec : {M : Type 1} → statement M
 one-more-spec = tie.close (tie.spec returns add-result returns-2)

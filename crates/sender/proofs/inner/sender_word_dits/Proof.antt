@@ -1,3 +1,13 @@
+use mathlib.Core.Path.{sym, ap, _∙_}
+use lib.Ieee.{Float}
+use Rattle.numbers.specs.Order.{clamp}
+use Rattle.sender.specs.declared.TimingClass.the-variants.{CharGap, WordGap}
+use Rattle.sender.specs.Constants.{wordMin, wordMax}
+use Rattle.sender.specs.Model.{view}
+use Rattle.sender.specs.Steps.{wordDits}
+use Rattle.sender.specs.Answers.{length, optional}
+use Rattle.sender.proofs.Views.{none-at, sound-at}
+use Rattle.sender.proofs.Readings.{word-of}
 use borrow.Author.Needs.{needs}
 use Rattle.sender.proofs.inner.sender_word_dits.Statement.{statement}
 use Rattle.sender.proofs.inner.sender_word_dits.Tie as tie
@@ -8,7 +18,8 @@ use Rattle.sender.proofs.inner.boundary.Reads as boundary-reads
 
 -- src/inner.rt:147:9
 returns : tie.Need-returns
-returns c = ?
+unfolding wordDits
+returns c = let g = c .before .before .before .args .s .«char_gap» in rw (none-at (g .mean .0) (g .var) (g .n) (c .if1 .taken))
 
 -- src/inner.rt:149:9
 boundary-requires : tie.Need-boundary-requires
@@ -20,7 +31,11 @@ clamp32-requires c κs = search needs
 
 -- src/inner.rt:141:1
 returns-2 : tie.Need-returns-2
-returns-2 c = ?
+returns-2 c =
+    let b = c .before .before .before .before .before in
+    let s = b .args .s in
+    ap length (c .clamp32 .ensures ∙ ap (λ (x : Float). clamp x wordMin wordMax) (c .before .boundary .ensures))
+    ∙ sym (ap (optional length) (word-of (s .«char_gap») (s .«word_gap») (sound-at CharGap (view s) (b .pre)) (sound-at WordGap (view s) (b .pre)) (c .before .before .if1 .left)))
 
 pub sender-word-dits-spec : {M : Type 1} → statement M
 sender-word-dits-spec = tie.close (tie.spec returns boundary-requires clamp32-requires returns-2)

@@ -26,23 +26,23 @@ enum-told-5 c = search needs
 
 -- src/inner.rt:47:1
 returns : tie.Need-returns
-returns c = ?
+returns c = rw (c .before .before .before .before .enum-told .given .1)
 
 -- src/inner.rt:47:1
 returns-2 : tie.Need-returns-2
-returns-2 c = ?
+returns-2 c = rw (c .before .before .before .before .enum-told2 .given .1)
 
 -- src/inner.rt:47:1
 returns-3 : tie.Need-returns-3
-returns-3 c = ?
+returns-3 c = rw (c .before .before .before .before .enum-told3 .given .1)
 
 -- src/inner.rt:47:1
 returns-4 : tie.Need-returns-4
-returns-4 c = ?
+returns-4 c = rw (c .before .before .before .before .enum-told4 .given .1)
 
 -- src/inner.rt:47:1
 returns-5 : tie.Need-returns-5
-returns-5 c = ?
+returns-5 c = rw (c .before .before .before .before .enum-told5 .given .1)
 
 pub with-stats-spec : {M : Type 1} → statement M
 with-stats-spec =
