@@ -34,7 +34,7 @@ high-power : (p m k t : ℕ) → t ≤ k → m * 2 ^ k < 2 ^ p * 2 ^ t → m * 2
 high-power p m k t l h =
     let q = m * 2 ^ (k - t) in
     let e : m * 2 ^ k ≡ q * 2 ^ t =
-        ap (λ (z : ℕ). m * 2 ^ z) (sym (add-sub-of-le l)) ∙ ap (λ (z : ℕ). m * z) (pow-add 2 t (k - t) ∙ mul-comm (2 ^ t) (2 ^ (k - t))) ∙ sym (mul-assoc m (2 ^ (k - t)) (2 ^ t)) in
+    ap (λ (z : ℕ). m * 2 ^ z) (sym (add-sub-of-le l)) ∙ ap (λ (z : ℕ). m * z) (pow-add 2 t (k - t) ∙ mul-comm (2 ^ t) (2 ^ (k - t))) ∙ sym (mul-assoc m (2 ^ (k - t)) (2 ^ t)) in
     subst (λ (z : ℕ). z ≤ (2 ^ p - 1) * 2 ^ t) (sym e) (mul-le-mul-right (2 ^ t) (most p q (lt-of-mul-lt-mul-right (2 ^ t) (subst (λ (z : ℕ). z < 2 ^ p * 2 ^ t) e h))))
 
 power : (p m k t : ℕ) → m < 2 ^ p → m * 2 ^ k < 2 ^ p * 2 ^ t → m * 2 ^ k ≤ (2 ^ p - 1) * 2 ^ t

@@ -1,5 +1,5 @@
 -- An accepted `observe` leaves sound statistics sound, from every sound start. Assumes nothing.
-use mathlib.Core.Path.{_≡_}
+use mathlib.Core.Path.{_≡_, sym, ap, _∙_, subst}
 use mathlib.Core.Option.{Option, none, some}
 use Prim.Native.Nat.{ℕ, _+_, _≤_, _<_, min}
 use native.Mathlib.Nat.{le-min}
@@ -14,9 +14,11 @@ use Rattle.ranges.proofs.Interval.{in-widen, div-in}
 use Rattle.ranges.proofs.Compare.{within-in, in-within}
 use Rattle.ranges.proofs.Classes.{class-average-in}
 use Rattle.sender.specs.Constants.{ditMin, ditMax, countMax}
-use Rattle.sender.specs.Model.{Class}
+use Rattle.sender.specs.declared.ClassStats.{ClassStats}
+use Rattle.sender.specs.Model.{Class, sampled, viewClass}
 use Rattle.sender.specs.Sound.{varSound, classSound}
 use Rattle.sender.specs.Steps.{dits, counted, meanNext, varNext, observedClass}
+use Rattle.sender.proofs.Views.{some-at}
 use Rattle.sender.proofs.Variance.{variance-sound}
 
 -- a duration in dits is a sound mean
@@ -53,3 +55,18 @@ next-sound c x M S X h j =
 pub counted-some : (n : ℕ) → counted n ≡ 0 → ⊥
 unfolding counted
 counted-some n e = let h : 1 ≤ min (n + 1) countMax = le-min (omega arith) (omega arith) in omega arith
+
+-- ---- a later sample, as the code makes it
+module _ (s : ClassStats) (x : Float) (e : s .n ≡ 0 → ⊥) where
+  held : viewClass s ≡ some (record { mean = s .mean .0; var = s .var; n = s .n })
+  held = some-at (s .mean .0) (s .var) (s .n) e
+
+  pub next-is : (k : ℕ) → k ≡ counted (s .n) → sampled (meanNext (s .mean .0) (sub binary32 x (s .mean .0))) (varNext (s .var) (sub binary32 x (s .mean .0))) k ≡ some (observedClass (viewClass s) x)
+  unfolding observedClass
+  next-is k q =
+      let m = meanNext (s .mean .0) (sub binary32 x (s .mean .0)) in
+      let v = varNext (s .var) (sub binary32 x (s .mean .0)) in
+      ap (sampled m v) q ∙ some-at m v (counted (s .n)) (counted-some (s .n)) ∙ sym (ap (λ (o : Option Class). some (observedClass o x)) held)
+
+  pub next-made-sound : T (fits binary32 (s .mean .0)) → T (fits binary32 (s .var)) → T (fits binary32 x) → T (classSound (viewClass s)) → In classMin classMax x → T (classSound (some (observedClass (viewClass s) x)))
+  next-made-sound a b c h j = subst (λ (o : Option Class). T (classSound (some (observedClass o x)))) (sym held) (next-sound _ x a b c (subst (λ (o : Option Class). T (classSound o)) held h) j)

@@ -14,7 +14,7 @@ use Rattle.ranges.proofs.Door.{unrefused-in}
 use Rattle.sender.specs.Constants.{ditMin, ditMax}
 use Rattle.sender.specs.Model.{Class, Timing, sampled}
 use Rattle.sender.specs.Sound.{classSound, sound}
-use Rattle.sender.specs.Answers.{Answer, refused, unless, firstOf, observeRefusal}
+use Rattle.sender.specs.Answers.{Answer, refused, unless, stateRefusal, firstOf, observeRefusal}
 use Rattle.sender.proofs.Views.{some-at}
 
 pub class-sound-is : (m v : Float) (n : ℕ) (a b f : Bool) → (n ≡ 0 → ⊥) → a ≡ within classMin classMax m → le nought v ≡ b → f ≡ finite v → (a && (b && f)) ≡ classSound (sampled m v n)
@@ -55,3 +55,10 @@ said-refused (suc n) a h = refl
 pub first-some : (n m : ℕ) → (n ≡ 0 → ⊥) → n ≡ firstOf n m
 first-some zero m h = absurd (h refl)
 first-some (suc n) m h = refl
+
+-- ---- a call that only asks for sound statistics
+pub said-sound : (t : Timing) (a : Answer) → sound t ≡ true → a ≡ unless (stateRefusal t) a
+said-sound t a e = rw e
+
+pub said-unsound : (t : Timing) (a : Answer) → sound t ≡ false → refused 1 ≡ unless (stateRefusal t) a
+said-unsound t a e = rw e

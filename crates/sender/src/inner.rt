@@ -50,7 +50,10 @@ pub(crate) fn with_stats(s: SenderTiming, class: TimingClass, c: ClassStats) -> 
     match class {
         TimingClass::Dot => SenderTiming { dot: c, ..s },
         TimingClass::Dash => SenderTiming { dash: c, ..s },
-        TimingClass::ElementGap => SenderTiming { element_gap: c, ..s },
+        TimingClass::ElementGap => SenderTiming {
+            element_gap: c,
+            ..s
+        },
         TimingClass::CharGap => SenderTiming { char_gap: c, ..s },
         TimingClass::WordGap => SenderTiming { word_gap: c, ..s },
     }

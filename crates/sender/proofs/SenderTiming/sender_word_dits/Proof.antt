@@ -1,3 +1,8 @@
+use mathlib.Core.Path.{sym, ap, ap₂, _∙_}
+use Rattle.ranges.proofs.Compare.{passed}
+use Rattle.sender.specs.Model.{view}
+use Rattle.sender.specs.Answers.{meanSaid, ratioSaid, wordSaid, pauseSaid, reported, flag, report}
+use Rattle.sender.proofs.Tests.{said-sound, said-unsound}
 use borrow.Author.Needs.{needs}
 use Rattle.sender.proofs.SenderTiming.sender_word_dits.Statement.{statement}
 use Rattle.sender.proofs.SenderTiming.sender_word_dits.Tie as tie
@@ -12,15 +17,19 @@ is-sound-requires c κs = search needs
 
 -- src/lib.rt:165:13
 sender-word-dits-requires : tie.Need-sender-word-dits-requires
-sender-word-dits-requires c κs = ?
+sender-word-dits-requires c κs = passed (sym (c .before .is-sound .ensures) ∙ c .if1 .taken)
 
 -- src/lib.rt:165:13
 returns : tie.Need-returns
-returns c = ?
+returns c =
+    let a = c .before .before .before .args in
+    c .sender-word-dits .ensures ∙ said-sound (view (a .self)) (wordSaid (view (a .self))) (sym (c .before .before .is-sound .ensures) ∙ c .before .if1 .taken)
 
 -- src/lib.rt:161:5
 returns-2 : tie.Need-returns-2
-returns-2 c = ?
+returns-2 c =
+    let a = c .before .before .args in
+    said-unsound (view (a .self)) (wordSaid (view (a .self))) (sym (c .before .is-sound .ensures) ∙ c .if1 .left)
 
 pub sender-word-dits-spec : {M : Type 1} → statement M
 sender-word-dits-spec =

@@ -11,7 +11,7 @@ use Rattle.numbers.proofs.inner.root32.Reads as root32-reads
 -- src/inner.rt:135:9
 returns : tie.Need-returns
 unfolding boundary
-returns c = let w = c .before .before .before .args .word-gap in rw (none-at (w .mean .0) (w .var) (w .n) (c .before .before .if1 .taken), nominal-root)
+returns c = let w = c .before .before .before .args .word-gap in rw (none-at (w .mean .0) (w .var) (w .n) (c .before .if1 .taken), nominal-root)
 
 -- src/inner.rt:137:5
 root32-requires : tie.Need-root32-requires

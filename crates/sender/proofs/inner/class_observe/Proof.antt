@@ -1,7 +1,12 @@
+use mathlib.Core.Path.{sym, subst}
+use mathlib.Core.Option.{Option}
+use lib.Dec.{T}
+use Rattle.sender.specs.Model.{Class}
+use Rattle.sender.specs.Sound.{classSound}
 use lib.Ieee.{ofBits}
 use Rattle.sender.specs.Steps.{observedClass}
-use Rattle.sender.proofs.Views.{none-at, some-at}
-use Rattle.sender.proofs.Samples.{first-sound, next-sound, counted-some}
+use Rattle.sender.proofs.Views.{none-at}
+use Rattle.sender.proofs.Samples.{first-sound, next-is, next-made-sound}
 use borrow.Author.Needs.{needs}
 use Rattle.sender.proofs.inner.class_observe.Statement.{statement}
 use Rattle.sender.proofs.inner.class_observe.Tie as tie
@@ -22,8 +27,13 @@ one-more-requires c κs = search needs
 
 -- src/inner.rt:70:1
 returns-2 : tie.Need-returns-2
-unfolding observedClass
-returns-2 c = ?
+returns-2 c =
+    let b = c .before .before .before .before .before .before .before in
+    let s = b .args .s in
+    let x = b .args .x .0 in
+    let left = c .before .before .before .before .before .if1 .left in
+    let e = next-is s x left (c .one-more .result) (c .one-more .ensures) in
+    (e, subst (λ (o : Option Class). T (classSound o)) (sym e) (next-made-sound s x left (c .before .before .before .before .before .before .struct-known .given .0 .0) (c .before .before .before .before .before .before .struct-known .given .1 .0) (c .before .before .before .before .struct-known2 .given .0) (b .pre .0) (b .pre .1)))
 
 pub class-observe-spec : {M : Type 1} → statement M
 class-observe-spec = tie.close (tie.spec returns one-more-requires returns-2)

@@ -22,7 +22,7 @@ returns-3 : tie.Need-returns-3
 returns-3 c =
     let b = c .before .before .before .before .before .before .before .before in
     let s = b .args .s in
-    sym (ap (optional ratio) (ratio-of (s .dot) (s .dash) (sound-at Dot (view s) (b .pre)) (sound-at Dash (view s) (b .pre)) ?a ?b))
+    sym (ap (optional ratio) (ratio-of (s .dot) (s .dash) (sound-at Dot (view s) (b .pre)) (sound-at Dash (view s) (b .pre)) (c .before .before .before .before .if1 .left) (c .before .before .if2 .left)))
 
 pub dash-dot-ratio-spec : {M : Type 1} → statement M
 dash-dot-ratio-spec = tie.close (tie.spec returns returns-2 returns-3)
