@@ -4,6 +4,7 @@ use mathlib.Core.Logic.{inl, inr}
 use mathlib.Core.Bool.{Bool, true, false, not, _&&_, cond}
 use mathlib.Core.Option.{Option, none, some}
 use Prim.Native.Nat.{ℕ, zero, suc, _≤_, _<_}
+use native.Mathlib.Nat.{lt-irrefl, zero-lt-suc}
 use native.Mathlib.Omega.{arith}
 use lib.Dec.{T, eqb}
 use lib.Ieee.{Float, nan, inf, fin, binary32, div, mul, le, lt, fits, isNan, ofBits}
@@ -26,10 +27,12 @@ use Rattle.ranges.proofs.Door.{not-positive}
 use Rattle.ranges.proofs.Clamp as C
 use Rattle.sender.specs.Constants.{nominalRatio, wordMin, wordMax, ratioCount}
 use Rattle.sender.specs.declared.ClassStats.{ClassStats}
-use Rattle.sender.specs.Model.{Class, viewClass}
-use Rattle.sender.specs.Sound.{classSound}
+use Rattle.sender.specs.Model.{Class, Timing, viewClass}
+use Rattle.sender.specs.Sound.{classSound, sound}
 use Rattle.sender.specs.Steps.{enough, ratio, boundary, wordDits}
-use Rattle.sender.proofs.Views.{some-at}
+use Rattle.sender.specs.Answers.{length, unless, stateRefusal, optional, wordSaid}
+use Rattle.sender.specs.declared.TimingClass.the-variants.{CharGap, WordGap}
+use Rattle.sender.proofs.Views.{some-at, sound-at}
 use Rattle.sender.proofs.Samples.{mean-in}
 
 -- ---- a sound mean is above zero, and the quotient of two is finite
@@ -135,3 +138,19 @@ pub word-of : (c w : ClassStats) → T (classSound (viewClass c)) → T (classSo
 word-of c w h k n =
     let e = seen c n in
     ap (λ (o : Option Class). wordDits o (viewClass w)) e ∙ word-is _ (viewClass w) (subst (λ (o : Option Class). T (classSound o)) e h) k
+
+-- ---- whatever is said of a word boundary lies from 3 to 12
+said-in : (o w : Option Class) (x : Float) → T (classSound o) → T (classSound w) → optional length (wordDits o w) ≡ length x → In wordMin wordMax x
+unfolding wordDits
+said-in none w x h k e = let z : _≡_ {A = ℕ} 0 1 = cc in absurd (lt-irrefl 0 (subst (λ (n : ℕ). 0 < n) (sym z) (zero-lt-suc 0)))
+said-in (some c) w x h k e =
+    let d : length (clamp (boundary (c .mean) w) wordMin wordMax) ≡ length x = sym (ap (optional length) (word-is c w h k)) ∙ e in
+    let q : clamp (boundary (c .mean) w) wordMin wordMax ≡ x = cc in
+    subst (In wordMin wordMax) q (boundary-in (c .mean) w (mean-in c h) k)
+
+pub word-said-in : (t : Timing) (x : Float) → unless (stateRefusal t) (wordSaid t) ≡ length x → In wordMin wordMax x
+word-said-in t x e = go (sound t) (λ h. h) e
+  where
+    go : (b : Bool) → (T b → T (sound t)) → unless (cond b 0 1) (wordSaid t) ≡ length x → In wordMin wordMax x
+    go true h e = said-in (t .charGap) (t .wordGap) x (sound-at CharGap t (h tt)) (sound-at WordGap t (h tt)) e
+    go false h e = let z : _≡_ {A = ℕ} 0 1 = cc in absurd (lt-irrefl 0 (subst (λ (n : ℕ). 0 < n) (sym z) (zero-lt-suc 0)))

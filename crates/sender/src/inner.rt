@@ -133,13 +133,13 @@ pub fn dash_dot_ratio(s: SenderTiming) -> Ratio
 }
 
 // The boundary before it is clamped: the geometric mean of both gaps, or the char gap times the nominal root.
-pub(crate) fn boundary(char_gap: Dits, word_gap: ClassStats) -> f32
-    ensures { λ r. ⌜ r ≡ boundary («char_gap» .0) (viewClass «word_gap») ⌝ }
+pub(crate) fn boundary(char_gap: Dits, word_gap: ClassStats) -> Dits
+    ensures { λ r. ⌜ r .0 ≡ boundary («char_gap» .0) (viewClass «word_gap») ⌝ }
 {
     if word_gap.n == 0 {
-        return char_gap.0 * NOMINAL_ROOT;
+        return Dits(char_gap.0 * NOMINAL_ROOT);
     }
-    root32(char_gap.0 * word_gap.mean.0)
+    Dits(root32(char_gap.0 * word_gap.mean.0))
 }
 
 // The boundary between characters and words. Of sound averages it is finite, so the Rust's test for that is left out.
@@ -152,24 +152,26 @@ pub fn sender_word_dits(s: SenderTiming) -> Length
         return Length::Absent;
     }
     let b = boundary(c.mean, s.word_gap);
-    Length::Is(Dits(clamp32(b, 3.0, 12.0)))
+    Length::Is(Dits(clamp32(b.0, 3.0, 12.0)))
 }
 
 // The average char gap, else 0.
-pub(crate) fn char_gap_or(s: SenderTiming) -> f32
-    ensures { λ r. ⌜ r ≡ charGapOr (view s) ⌝ }
+pub(crate) fn char_gap_or(s: SenderTiming) -> Dits
+    ensures { λ r. ⌜ r .0 ≡ charGapOr (view s) ⌝ }
 {
-    if s.char_gap.n == 0 {
-        return 0.0;
+    let c = s.char_gap;
+    if c.n == 0 {
+        return Dits(0.0);
     }
-    s.char_gap.mean.0
+    c.mean
 }
 
 // Whether a closed word gap is a pause.
 pub fn is_pause(s: SenderTiming, dits: Dits) -> bool
     ensures { λ r. ⌜ r ≡ pauses (dits .0) (view s) ⌝ }
 {
-    dits.0 >= max32(15.0, 4.0 * char_gap_or(s))
+    let cg = char_gap_or(s);
+    dits.0 >= max32(15.0, 4.0 * cg.0)
 }
 
 // One class for the report.

@@ -1,3 +1,4 @@
+use Rattle.sender.proofs.Readings.{word-said-in}
 use mathlib.Core.Path.{sym, ap, ap₂, _∙_}
 use Rattle.ranges.proofs.Compare.{passed}
 use Rattle.sender.specs.Model.{view}
@@ -23,13 +24,15 @@ sender-word-dits-requires c κs = passed (sym (c .before .is-sound .ensures) ∙
 returns : tie.Need-returns
 returns c =
     let a = c .before .before .before .args in
-    c .sender-word-dits .ensures ∙ said-sound (view (a .self)) (wordSaid (view (a .self))) (sym (c .before .before .is-sound .ensures) ∙ c .before .if1 .taken)
+    let e = c .sender-word-dits .ensures ∙ said-sound (view (a .self)) (wordSaid (view (a .self))) (sym (c .before .before .is-sound .ensures) ∙ c .before .if1 .taken) in
+    (e, λ x q. word-said-in (view (a .self)) x (sym e ∙ q))
 
 -- src/lib.rt:161:5
 returns-2 : tie.Need-returns-2
 returns-2 c =
     let a = c .before .before .args in
-    said-unsound (view (a .self)) (wordSaid (view (a .self))) (sym (c .before .is-sound .ensures) ∙ c .if1 .left)
+    let e = said-unsound (view (a .self)) (wordSaid (view (a .self))) (sym (c .before .is-sound .ensures) ∙ c .if1 .left) in
+    (e, λ x q. word-said-in (view (a .self)) x (sym e ∙ q))
 
 pub sender-word-dits-spec : {M : Type 1} → statement M
 sender-word-dits-spec =

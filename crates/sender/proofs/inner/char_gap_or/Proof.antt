@@ -9,12 +9,12 @@ use Rattle.sender.proofs.inner.char_gap_or.Lts as lts
 -- src/inner.rt:156:9
 returns : tie.Need-returns
 unfolding charGapOr ofBits
-returns c = let s = c .before .before .args .s .«char_gap» in rw (none-at (s .mean .0) (s .var) (s .n) (c .if1 .taken))
+returns c = let s = c .before .before .before .args .s .«char_gap» in rw (none-at (s .mean .0) (s .var) (s .n) (c .if1 .taken))
 
 -- src/inner.rt:152:1
 returns-2 : tie.Need-returns-2
 unfolding charGapOr
-returns-2 c = let s = c .before .before .args .s .«char_gap» in rw (some-at (s .mean .0) (s .var) (s .n) (c .if1 .left))
+returns-2 c = let s = c .before .before .before .before .args .s .«char_gap» in rw (some-at (s .mean .0) (s .var) (s .n) (c .before .if1 .left))
 
 pub char-gap-or-spec : {M : Type 1} → statement M
 char-gap-or-spec = tie.close (tie.spec returns returns-2)

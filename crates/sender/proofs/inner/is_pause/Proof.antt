@@ -18,7 +18,7 @@ max32-requires c κs = search needs
 -- src/inner.rt:162:1
 returns : tie.Need-returns
 unfolding pauses
-returns c = rw (c .before .max32 .ensures, c .before .before .char-gap-or .ensures)
+returns c = rw (c .before .max32 .ensures, c .before .before .before .char-gap-or .ensures)
 
 pub is-pause-spec : {M : Type 1} → statement M
 is-pause-spec = tie.close (tie.spec char-gap-or-requires max32-requires returns)
