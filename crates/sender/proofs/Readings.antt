@@ -1,7 +1,7 @@
 -- Of sound statistics the ratio is finite, and so is the word boundary, which lies from 3 to 12. Assumes nothing.
 use mathlib.Core.Path.{_≡_, refl, sym, ap, ap₂, _∙_, subst}
 use mathlib.Core.Logic.{inl, inr}
-use mathlib.Core.Bool.{Bool, true, false, not, _&&_, cond}
+use mathlib.Core.Bool.{Bool, true, false, _&&_, cond}
 use mathlib.Core.Option.{Option, none, some}
 use Prim.Native.Nat.{ℕ, zero, suc, _≤_, _<_}
 use native.Mathlib.Nat.{lt-irrefl, zero-lt-suc}
@@ -13,10 +13,10 @@ use lib.Ieee.Bits.{is-true}
 use lib.Ieee.Fits.{mul-fits}
 use lib.Ieee.Scale.{finite}
 use lib.Ieee.Exact.{HasValue}
-use lib.Ieee.Positive.{positive, between, positive-finite}
+use lib.Ieee.Positive.{positive, between}
 use borrow.Author.Tests.{lt-leb, le-leb}
 use Rattle.numbers.specs.Order.{clamp}
-use Rattle.numbers.specs.Root.{sqrtOf, rootOf, floorRoot, rootIn, unitsOf}
+use Rattle.numbers.specs.Root.{sqrtOf, rootOf, floorRoot, rootIn}
 use Rattle.numbers.proofs.NearestRoot.{root-is-nearest}
 use Rattle.ranges.specs.Interval.{In}
 use Rattle.ranges.specs.Limits.{nought, classMin, classMax}
@@ -25,13 +25,13 @@ use Rattle.ranges.proofs.Interval.{in-finite, mul-in, div-in}
 use Rattle.ranges.proofs.Compare.{either}
 use Rattle.ranges.proofs.Door.{not-positive}
 use Rattle.ranges.proofs.Clamp as C
-use Rattle.sender.specs.Constants.{nominalRatio, wordMin, wordMax, ratioCount}
 use Rattle.sender.specs.declared.ClassStats.{ClassStats}
+use Rattle.sender.specs.declared.TimingClass.the-variants.{CharGap, WordGap}
+use Rattle.sender.specs.Constants.{nominalRatio, wordMin, wordMax, ratioCount}
 use Rattle.sender.specs.Model.{Class, Timing, viewClass}
 use Rattle.sender.specs.Sound.{classSound, sound}
 use Rattle.sender.specs.Steps.{enough, ratio, boundary, wordDits}
 use Rattle.sender.specs.Answers.{length, unless, stateRefusal, optional, wordSaid}
-use Rattle.sender.specs.declared.TimingClass.the-variants.{CharGap, WordGap}
 use Rattle.sender.proofs.Views.{some-at, sound-at}
 use Rattle.sender.proofs.Samples.{mean-in}
 

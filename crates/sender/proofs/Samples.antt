@@ -1,20 +1,19 @@
 -- An accepted `observe` leaves sound statistics sound, from every sound start. Assumes nothing.
 use mathlib.Core.Path.{_≡_, sym, ap, _∙_, subst}
 use mathlib.Core.Option.{Option, none, some}
-use Prim.Native.Nat.{ℕ, _+_, _≤_, _<_, min}
+use Prim.Native.Nat.{ℕ, _+_, _≤_, min}
 use native.Mathlib.Nat.{le-min}
 use native.Mathlib.Omega.{arith}
 use lib.Dec.{T}
 use lib.Ieee.{Float, binary32, div, sub, le, fits, ofBits}
 use lib.Ieee.Fits.{and-i, and-l, and-r}
-use lib.Ieee.Scale.{finite}
 use Rattle.ranges.specs.Interval.{In, within}
 use Rattle.ranges.specs.Limits.{nought, durationMin, durationMax, classMin, classMax}
 use Rattle.ranges.proofs.Interval.{in-widen, div-in}
 use Rattle.ranges.proofs.Compare.{within-in, in-within}
 use Rattle.ranges.proofs.Classes.{class-average-in}
-use Rattle.sender.specs.Constants.{ditMin, ditMax, countMax}
 use Rattle.sender.specs.declared.ClassStats.{ClassStats}
+use Rattle.sender.specs.Constants.{ditMin, ditMax, countMax}
 use Rattle.sender.specs.Model.{Class, sampled, viewClass}
 use Rattle.sender.specs.Sound.{varSound, classSound}
 use Rattle.sender.specs.Steps.{dits, counted, meanNext, varNext, observedClass}

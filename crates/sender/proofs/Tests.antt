@@ -1,7 +1,6 @@
 -- What the tests at the door say: the soundness of a class, and the refusal of `observe`. Assumes nothing.
 use mathlib.Core.Path.{_≡_, refl, sym, ap, ap₂, _∙_}
 use mathlib.Core.Bool.{Bool, true, false, _&&_, cond}
-use mathlib.Core.Option.{some}
 use Prim.Native.Nat.{ℕ, zero, suc}
 use native.Mathlib.Omega.{arith}
 use lib.Dec.{T}
@@ -12,7 +11,7 @@ use Rattle.ranges.specs.Limits.{nought, classMin, classMax, durationMin, durati
 use Rattle.ranges.proofs.Compare.{within-in}
 use Rattle.ranges.proofs.Door.{unrefused-in}
 use Rattle.sender.specs.Constants.{ditMin, ditMax}
-use Rattle.sender.specs.Model.{Class, Timing, sampled}
+use Rattle.sender.specs.Model.{Timing, sampled}
 use Rattle.sender.specs.Sound.{classSound, sound}
 use Rattle.sender.specs.Answers.{Answer, refused, unless, stateRefusal, firstOf, observeRefusal}
 use Rattle.sender.proofs.Views.{some-at}

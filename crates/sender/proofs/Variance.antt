@@ -7,7 +7,7 @@ use lib.Ieee.Fits.{and-i, and-l, and-r}
 use lib.Ieee.Scale.{finite}
 use Rattle.ranges.specs.Interval.{In}
 use Rattle.ranges.specs.Limits.{nought, classMin, classMax, classWeight}
-use Rattle.ranges.proofs.Signed.{nonneg, neg-finite, le-neg, le-trans-float, finite-number, le-self}
+use Rattle.ranges.proofs.Signed.{neg-finite, le-neg, le-trans-float, finite-number}
 use Rattle.ranges.proofs.Interval.{in-finite, in-widen, sub-in, add-in, scale-in}
 use Rattle.ranges.proofs.Product.{mul-nonneg, mul-nonpos, mul-neg-neg, sized-in}
 use Rattle.ranges.proofs.Compare.{ordered}

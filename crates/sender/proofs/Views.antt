@@ -1,9 +1,9 @@
 -- What a count says of a class's view; a class taken out of statistics, and one put in. Assumes nothing.
-use mathlib.Core.Path.{_≡_, refl, ap}
-use mathlib.Core.Bool.{Bool, true, false, _&&_, cond}
+use mathlib.Core.Path.{_≡_, refl}
+use mathlib.Core.Bool.{Bool, _&&_}
 use mathlib.Core.Option.{Option, none, some}
 use Prim.Native.Nat.{ℕ}
-use lib.Dec.{T, eqb}
+use lib.Dec.{T}
 use lib.Ieee.{Float}
 use lib.Ieee.Fits.{and-i, and-l, and-r}
 use borrow.Author.Tests.{eq-eqb, ne-eqb}

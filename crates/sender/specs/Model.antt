@@ -5,7 +5,6 @@ use Prim.Native.Nat.{ℕ}
 use lib.Dec.{eqb}
 use lib.Ieee.{Float}
 use Rattle.ranges.specs.Limits.{nought}
-use Rattle.sender.specs.declared.Dits.{Dits}
 use Rattle.sender.specs.declared.TimingClass.{TimingClass}
 use Rattle.sender.specs.declared.TimingClass.the-variants.{Dot, Dash, ElementGap, CharGap, WordGap}
 use Rattle.sender.specs.declared.ClassStats.{ClassStats}

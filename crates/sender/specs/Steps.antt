@@ -1,5 +1,5 @@
 -- What the calls of a sender's statistics do, each operation rounded once, in the Rust's order. Definitions only.
-use mathlib.Core.Bool.{Bool, true, false, cond, _&&_}
+use mathlib.Core.Bool.{Bool, cond, _&&_}
 use mathlib.Core.Option.{Option, none, some}
 use Prim.Native.Nat.{ℕ, _+_, min}
 use lib.Dec.{leb}

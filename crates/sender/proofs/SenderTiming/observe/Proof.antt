@@ -1,34 +1,27 @@
+-- `sender::SenderTiming::observe` meets its contract. Assumes nothing.
 use mathlib.Core.Path.{refl, sym, ap, _∙_}
 use Prim.Native.Nat.{ℕ}
+use borrow.Author.Needs.{needs}
 use Rattle.sender.specs.Model.{view}
 use Rattle.sender.specs.Answers.{unless, done}
 use Rattle.sender.proofs.Tests.{unrefused, said-refused}
-use borrow.Author.Needs.{needs}
 use Rattle.sender.proofs.SenderTiming.observe.Statement.{statement}
 use Rattle.sender.proofs.SenderTiming.observe.Tie as tie
-use Rattle.sender.proofs.SenderTiming.observe.Reads as reads
-use Rattle.sender.proofs.SenderTiming.observe.Lts as lts
-use Rattle.sender.proofs.door.observe_refusal.Reads as observe-refusal-reads
-use Rattle.sender.proofs.inner.observe.Reads as observe-reads
 
--- src/lib.rt:126:13
 observe-refusal-requires : tie.Need-observe-refusal-requires
 observe-refusal-requires c κs = search needs
 
--- src/lib.rt:128:17
 observe-requires : tie.Need-observe-requires
 observe-requires c κs =
     let a = c .before .before .args in
     let w = unrefused (view (a .self)) (a .dur-ms .0) (a .dit-ms .0) (sym (c .before .observe-refusal .ensures) ∙ c .if1 .taken) in
     (w .state, (w .duration, w .length))
 
--- src/lib.rt:129:13
 returns : tie.Need-returns
 returns c =
     let e = sym (c .before .before .observe-refusal .ensures) ∙ c .before .if1 .taken in
     (sym (ap (λ (n : ℕ). unless n done) e), record { kept = λ ne. absurd (ne e); state = λ z. c .observe .ensures .0; still = λ z. c .observe .ensures .1 })
 
--- src/lib.rt:122:5
 returns-2 : tie.Need-returns-2
 returns-2 c =
     let e = c .before .observe-refusal .ensures in

@@ -1,47 +1,37 @@
+-- `sender::door::is_class_sound` meets its contract. Assumes nothing.
 use mathlib.Core.Path.{refl, sym, _∙_}
 use mathlib.Core.Bool.{true, false}
 use lib.Ieee.{ofBits, le}
 use lib.Ieee.Scale.{finite}
-use Rattle.ranges.specs.Limits.{nought}
-use Rattle.sender.proofs.Tests.{class-sound-is}
-use Rattle.sender.specs.Sound.{classSound}
-use lib.Dec.{eqb}
 use borrow.Author.Needs.{needs}
+use Rattle.ranges.specs.Limits.{nought}
+use Rattle.sender.specs.Sound.{classSound}
+use Rattle.sender.proofs.Tests.{class-sound-is}
 use Rattle.sender.proofs.door.is_class_sound.Statement.{statement}
 use Rattle.sender.proofs.door.is_class_sound.Tie as tie
-use Rattle.sender.proofs.door.is_class_sound.Reads as reads
-use Rattle.sender.proofs.door.is_class_sound.Lts as lts
-use Rattle.ranges.proofs.is_finite.Reads as is-finite-reads
-use Rattle.ranges.proofs.within.Reads as within-reads
 
--- src/door.rt:18:9
 returns : tie.Need-returns
 unfolding classSound
 returns c = rw (c .if1 .taken)
 
--- src/door.rt:20:8
 within-requires : tie.Need-within-requires
 within-requires c κs = search needs
 
--- src/door.rt:22:13
 is-finite-requires : tie.Need-is-finite-requires
 is-finite-requires c κs = search needs
 
--- src/door.rt:22:13
 returns-2 : tie.Need-returns-2
 unfolding ofBits
 returns-2 c =
     let s = c .before .before .before .before .before .before .before .args .s in
     class-sound-is (s .mean .0) (s .var) (s .n) true true _ (c .before .before .before .before .before .if1 .left) (sym (c .before .before .before .if2 .taken) ∙ c .before .before .before .before .within .ensures) (c .before .if3 .taken) (c .is-finite .ensures)
 
--- src/door.rt:14:1
 returns-3 : tie.Need-returns-3
 unfolding ofBits
 returns-3 c =
     let s = c .before .before .before .before .before .before .args .s in
     class-sound-is (s .mean .0) (s .var) (s .n) true false (finite (s .var)) (c .before .before .before .before .if1 .left) (sym (c .before .before .if2 .taken) ∙ c .before .before .before .within .ensures) (c .if3 .left) refl
 
--- src/door.rt:14:1
 returns-4 : tie.Need-returns-4
 returns-4 c =
     let s = c .before .before .before .before .args .s in

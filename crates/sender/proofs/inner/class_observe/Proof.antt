@@ -1,31 +1,26 @@
+-- `sender::inner::class_observe` meets its contract. Assumes nothing.
 use mathlib.Core.Path.{sym, subst}
 use mathlib.Core.Option.{Option}
 use lib.Dec.{T}
+use lib.Ieee.{ofBits}
+use borrow.Author.Needs.{needs}
 use Rattle.sender.specs.Model.{Class}
 use Rattle.sender.specs.Sound.{classSound}
-use lib.Ieee.{ofBits}
 use Rattle.sender.specs.Steps.{observedClass}
 use Rattle.sender.proofs.Views.{none-at}
 use Rattle.sender.proofs.Samples.{first-sound, next-is, next-made-sound}
-use borrow.Author.Needs.{needs}
 use Rattle.sender.proofs.inner.class_observe.Statement.{statement}
 use Rattle.sender.proofs.inner.class_observe.Tie as tie
-use Rattle.sender.proofs.inner.class_observe.Reads as reads
-use Rattle.sender.proofs.inner.class_observe.Lts as lts
-use Rattle.sender.proofs.inner.one_more.Reads as one-more-reads
 
--- src/inner.rt:74:9
 returns : tie.Need-returns
 unfolding observedClass ofBits
 returns c =
     let a = c .before .before .args in
     (rw (none-at (a .s .mean .0) (a .s .var) (a .s .n) (c .if1 .taken)), first-sound (a .x .0) (c .before .before .pre .1))
 
--- src/inner.rt:86:12
 one-more-requires : tie.Need-one-more-requires
 one-more-requires c κs = search needs
 
--- src/inner.rt:70:1
 returns-2 : tie.Need-returns-2
 returns-2 c =
     let b = c .before .before .before .before .before .before .before in

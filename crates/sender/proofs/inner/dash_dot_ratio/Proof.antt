@@ -1,3 +1,4 @@
+-- `sender::inner::dash_dot_ratio` meets its contract. Assumes nothing.
 use mathlib.Core.Path.{sym, ap}
 use Rattle.sender.specs.declared.TimingClass.the-variants.{Dot, Dash}
 use Rattle.sender.specs.Model.{view, viewClass}
@@ -6,18 +7,13 @@ use Rattle.sender.proofs.Views.{sound-at}
 use Rattle.sender.proofs.Readings.{few-dots, few-dashes, ratio-of}
 use Rattle.sender.proofs.inner.dash_dot_ratio.Statement.{statement}
 use Rattle.sender.proofs.inner.dash_dot_ratio.Tie as tie
-use Rattle.sender.proofs.inner.dash_dot_ratio.Reads as reads
-use Rattle.sender.proofs.inner.dash_dot_ratio.Lts as lts
 
--- src/inner.rt:121:9
 returns : tie.Need-returns
 returns c = let s = c .before .before .before .before .args .s in sym (ap (optional ratio) (few-dots (s .dot) (viewClass (s .dash)) (c .if1 .taken)))
 
--- src/inner.rt:124:9
 returns-2 : tie.Need-returns-2
 returns-2 c = let s = c .before .before .before .before .before .before .args .s in sym (ap (optional ratio) (few-dashes (s .dash) (viewClass (s .dot)) (c .if2 .taken)))
 
--- src/inner.rt:114:1
 returns-3 : tie.Need-returns-3
 returns-3 c =
     let b = c .before .before .before .before .before .before .before .before in

@@ -1,32 +1,24 @@
+-- `sender::inner::estimates` meets its contract. Assumes nothing.
 use mathlib.Core.Path.{refl}
 use borrow.Author.Needs.{needs}
 use Rattle.sender.proofs.inner.estimates.Statement.{statement}
 use Rattle.sender.proofs.inner.estimates.Tie as tie
-use Rattle.sender.proofs.inner.estimates.Reads as reads
-use Rattle.sender.proofs.inner.estimates.Lts as lts
-use Rattle.sender.proofs.inner.estimate.Reads as estimate-reads
 
--- src/inner.rt:191:14
 estimate-requires : tie.Need-estimate-requires
 estimate-requires c κs = search needs
 
--- src/inner.rt:192:15
 estimate-requires-2 : tie.Need-estimate-requires-2
 estimate-requires-2 c κs = search needs
 
--- src/inner.rt:193:22
 estimate-requires-3 : tie.Need-estimate-requires-3
 estimate-requires-3 c κs = search needs
 
--- src/inner.rt:194:19
 estimate-requires-4 : tie.Need-estimate-requires-4
 estimate-requires-4 c κs = search needs
 
--- src/inner.rt:195:19
 estimate-requires-5 : tie.Need-estimate-requires-5
 estimate-requires-5 c κs = search needs
 
--- src/inner.rt:186:1
 returns : tie.Need-returns
 returns c = (refl, simp (c .estimate5 .ensures, c .before .estimate4 .ensures, c .before .before .estimate3 .ensures, c .before .before .before .estimate2 .ensures, c .before .before .before .before .estimate .ensures))
 

@@ -1,23 +1,19 @@
+-- `sender::inner::one_more` meets its contract. Assumes nothing.
 use mathlib.Core.Path.{sym, _∙_}
 use native.Mathlib.Nat.{min-eq-left, min-eq-right}
 use native.Mathlib.Omega.{arith}
-use Rattle.sender.specs.Steps.{counted}
 use borrow.Author.Needs.{needs}
+use Rattle.sender.specs.Steps.{counted}
 use Rattle.sender.proofs.inner.one_more.Statement.{statement}
 use Rattle.sender.proofs.inner.one_more.Tie as tie
-use Rattle.sender.proofs.inner.one_more.Reads as reads
-use Rattle.sender.proofs.inner.one_more.Lts as lts
 
--- src/inner.rt:64:9
 returns : tie.Need-returns
 unfolding counted
 returns c = c .if1 .taken ∙ sym (min-eq-right (omega arith))
 
--- src/inner.rt:66:5
 add-result : tie.Need-add-result
 add-result c = search needs
 
--- src/inner.rt:60:1
 returns-2 : tie.Need-returns-2
 unfolding counted
 returns-2 c = sym (min-eq-left (omega arith))

@@ -1,5 +1,7 @@
+-- `sender::inner::sender_word_dits` meets its contract. Assumes nothing.
 use mathlib.Core.Path.{sym, ap, _∙_}
 use lib.Ieee.{Float}
+use borrow.Author.Needs.{needs}
 use Rattle.numbers.specs.Order.{clamp}
 use Rattle.sender.specs.declared.TimingClass.the-variants.{CharGap, WordGap}
 use Rattle.sender.specs.Constants.{wordMin, wordMax}
@@ -8,28 +10,19 @@ use Rattle.sender.specs.Steps.{wordDits}
 use Rattle.sender.specs.Answers.{length, optional}
 use Rattle.sender.proofs.Views.{none-at, sound-at}
 use Rattle.sender.proofs.Readings.{word-of}
-use borrow.Author.Needs.{needs}
 use Rattle.sender.proofs.inner.sender_word_dits.Statement.{statement}
 use Rattle.sender.proofs.inner.sender_word_dits.Tie as tie
-use Rattle.sender.proofs.inner.sender_word_dits.Reads as reads
-use Rattle.sender.proofs.inner.sender_word_dits.Lts as lts
-use Rattle.numbers.proofs.order.clamp32.Reads as clamp32-reads
-use Rattle.sender.proofs.inner.boundary.Reads as boundary-reads
 
--- src/inner.rt:147:9
 returns : tie.Need-returns
 unfolding wordDits
 returns c = let g = c .before .before .before .args .s .«char_gap» in rw (none-at (g .mean .0) (g .var) (g .n) (c .if1 .taken))
 
--- src/inner.rt:149:9
 boundary-requires : tie.Need-boundary-requires
 boundary-requires c κs = search needs
 
--- src/inner.rt:150:21
 clamp32-requires : tie.Need-clamp32-requires
 clamp32-requires c κs = search needs
 
--- src/inner.rt:141:1
 returns-2 : tie.Need-returns-2
 returns-2 c =
     let b = c .before .before .before .before .before in
