@@ -5,7 +5,7 @@ ghost use mathlib.Core.Path.{_≡_};
 ghost use lib.Ieee.{Float};
 ghost use Rattle.ranges.specs.Interval.{In};
 ghost use Rattle.sender.specs.Constants.{wordMin, wordMax};
-ghost use Rattle.sender.specs.Model.{view, blank};
+ghost use Rattle.sender.specs.Model.{number, view, blank};
 ghost use Rattle.sender.specs.Steps.{observed, dits};
 ghost use Rattle.sender.specs.Answers.{ofTold, ofLength, ofRatio, ofYes, ofReport, unless, done, length, stateRefusal, observeRefusal, Left, meanSaid, ratioSaid, wordSaid, pauseSaid, reported};
 
@@ -24,6 +24,21 @@ pub enum TimingClass {
     ElementGap,
     CharGap,
     WordGap,
+}
+
+impl TimingClass {
+    // Its number, 0 to 4.
+    pub fn index(self) -> usize
+        ensures { λ r. ⌜ r ≡ number self ⌝ }
+    {
+        match self {
+            TimingClass::Dot => 0,
+            TimingClass::Dash => 1,
+            TimingClass::ElementGap => 2,
+            TimingClass::CharGap => 3,
+            TimingClass::WordGap => 4,
+        }
+    }
 }
 
 // What is known of one class: average and variance, which mean nothing while n is 0.
