@@ -108,11 +108,11 @@ pub fn observe(s: SenderTiming, class: TimingClass, dur_ms: Millis, dit_ms: Mill
 pub fn mean_dits(s: SenderTiming, class: TimingClass) -> Length
     ensures { λ r. ⌜ ofLength r ≡ meanSaid class (view s) ⌝ }
 {
-    let c = stats(s, class);
-    if c.n == 0 {
+    let known = stats(s, class);
+    if known.n == 0 {
         return Length::Absent;
     }
-    let mean = c.mean;
+    let mean = known.mean;
     Length::Is(mean)
 }
 
