@@ -98,6 +98,7 @@ pub fn observe(s: SenderTiming, class: TimingClass, dur_ms: Millis, dit_ms: Mill
     requires { ⌜ In durationMin durationMax («dur_ms» .0) ⌝ }
     requires { ⌜ In ditMin ditMax («dit_ms» .0) ⌝ }
     ensures { λ r. ⌜ (view r ≡ observed class (dits («dur_ms» .0) («dit_ms» .0)) (view s)) × T (sound (view r)) ⌝ }
+    ensures { λ r. ⌜ r ≡ withStats class (statsOf class r) s ⌝ }
 {
     let x = Dits(dur_ms.0 / dit_ms.0);
     let next = class_observe(stats(s, class), x);
