@@ -1,0 +1,7 @@
+pub mod Standins
+pub mod Constants
+pub mod Model
+pub mod Lock
+pub mod Steps
+pub mod Sound
+pub mod Answers
