@@ -5,3 +5,4 @@ pub mod Lock
 pub mod Steps
 pub mod Sound
 pub mod Answers
+pub mod Examples
