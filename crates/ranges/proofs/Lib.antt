@@ -1,0 +1,12 @@
+pub mod Signed
+pub mod Rounded
+pub mod Monotone
+pub mod Own
+pub mod Compare
+pub mod Interval
+pub mod Clamp
+pub mod Door
+pub mod Product
+pub mod Narrow
+pub mod Halves
+pub mod Average
