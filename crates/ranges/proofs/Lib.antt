@@ -10,3 +10,8 @@ pub mod Product
 pub mod Narrow
 pub mod Halves
 pub mod Average
+pub mod Mean
+pub mod Score
+pub mod Good
+pub mod Classes
+pub mod Standard

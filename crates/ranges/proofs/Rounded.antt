@@ -8,12 +8,12 @@ use mathlib.Core.Bool.{Bool, true, false, not, _&&_, _||_, Bool·beq, cond, true
 use lib.IntN.{ℤ, pos, negsuc}
 use lib.Dec.{T, ltb, leb, eqb, eqb→eq, ltb→lt, lt→ltb, nltb→le, eqb-refl, not-T, eqb·suc-zero}
 use lib.Pow.{pow-pos}
-use lib.Ieee.{Float, nan, inf, fin, Format, prec, emax, low, up, down, odd, units, round, neg, sum, add, sub, mul, div, le, lt, eq, fits}
+use lib.Ieee.{Float, nan, inf, fin, Format, prec, emax, low, unlike, up, down, odd, units, round, neg, sum, add, sub, mul, div, le, lt, eq, isNan, fits}
 use lib.Ieee.Fits.{up-pos, down-pos, and-i, and-l, and-r, eq→eqb, round-is}
 use lib.Ieee.Exact.{HasValue, round-exact}
 use lib.Ieee.Order.{round-mono}
 use lib.Ieee.Scale.{finite}
-use lib.Ieee.Positive.{num, den, positive, den-pos, first-pos}
+use lib.Ieee.Positive.{num, den, positive, den-pos, first-pos, positive-finite}
 use Rattle.ranges.proofs.Signed.{ps, ng, Cross, from-signs, signed→le, le→signed, le-neg, neg-neg, neg-finite, neg-ps, neg-ng, neg-den, nonneg, nonneg-finite, nonneg-ng}
 
 -- ---- `round`'s sign, and its negation
@@ -217,3 +217,37 @@ flip f z true p n c m e d C = (false, m, ap neg (e ∙ sym (neg-round f m c)) �
 
 pub rounded-neg : (f : Format) (z : Float) (p n c : ℕ) → Rounded f z p n c → Rounded f (neg z) n p c
 rounded-neg f z p n c r = flip f z (r .0) p n c (r .1) (r .2) (r .3) (r .4)
+
+-- ---- a rounded fraction is a number
+sign-number : (s : Bool) (z : Float) → Sign s z → T (not (isNan z))
+unfolding isNan
+sign-number s nan h = absurd h
+sign-number s (inf t) h = tt
+sign-number s (fin t m e) h = tt
+
+pub rounded-number : (f : Format) (z : Float) (p n c : ℕ) → Rounded f z p n c → T (not (isNan z))
+rounded-number f z p n c r = sign-number (r .0) z (subst (Sign (r .0)) (sym (r .2)) (round-sign f (r .0) (r .1) c))
+
+pub sub-number : (f : Format) (x y : Float) → T (finite x) → T (finite y) → T (not (isNan (sub f x y)))
+sub-number f x y p q = rounded-number f (sub f x y) _ _ _ (sub-rounded f x y p q)
+
+pub div-number : (f : Format) (x y : Float) → T (finite x) → T (positive y) → T (not (isNan (div f x y)))
+div-number f x y p q = rounded-number f (div f x y) _ _ _ (div-rounded f x y p q)
+
+-- a factor above zero, also of an infinity
+plain : (b s : Bool) → b ≡ false → T (not (isNan (cond b nan (inf (unlike false s)))))
+unfolding isNan
+plain true s e = absurd (true≢false e)
+plain false s e = tt
+
+pub scaled-number : (f : Format) (k x : Float) → T (positive k) → T (not (isNan x)) → T (not (isNan (mul f k x)))
+scaled-number f k nan p q = absurd (unfold isNan in q)
+scaled-number f k (inf s) p q = by-infinity k p
+  where
+    by-infinity : (k : Float) → T (positive k) → T (not (isNan (mul f k (inf s))))
+    by-infinity nan p = absurd p
+    by-infinity (inf t) p = absurd p
+    by-infinity (fin true m e) p = absurd p
+    by-infinity (fin false zero e) p = absurd p
+    by-infinity (fin false (suc m) e) p = unfold mul in plain (eqb (suc m) 0) s (eqb·suc-zero m)
+scaled-number f k (fin s m e) p q = rounded-number f (mul f k (fin s m e)) _ _ _ (mul-rounded f k (fin s m e) (positive-finite k p) tt)

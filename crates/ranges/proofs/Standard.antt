@@ -1,0 +1,59 @@
+-- Document 01's numbers are good settings, so all that `Good` has holds of them. Assumes nothing.
+use mathlib.Core.Bool.{not, cond}
+use lib.Dec.{T}
+use lib.Ieee.{Float, binary32, sub, mul, div, neg, le, lt, isNan, fits, ofBits}
+use lib.Ieee.Scale.{finite}
+use lib.Ieee.Positive.{positive}
+use Rattle.ranges.specs.Interval.{In, within}
+use Rattle.ranges.specs.Limits.{durationMin, durationMax, dahMin, dahMax, idealRatio, paris, half, biasCap}
+use Rattle.ranges.specs.Settings.{Settings, standard, Good, Held}
+use Rattle.ranges.specs.Clamp.{clamp}
+use Rattle.ranges.specs.Average.{average}
+use Rattle.ranges.proofs.Interval.{div-in}
+use Rattle.ranges.proofs.Good as G
+
+pub standard-good : Good standard
+unfolding le lt ofBits
+standard-good = record {
+  ratio = record { from = tt; upto = tt; rising = tt };
+  ratioLow = tt;
+  ratioHigh = tt;
+  dit = record { from = tt; upto = tt; rising = tt };
+  weightIn = (tt, tt);
+  leadIn = (tt, tt);
+  pruneIn = (tt, tt);
+}
+
+pub standard-held : Held standard
+unfolding fits ofBits
+standard-held = record { ratioMinHeld = tt; ratioMaxHeld = tt; ditMinHeld = tt; ditMaxHeld = tt; weightHeld = tt; leadHeld = tt; pruneHeld = tt }
+
+
+pub dit-in : (x : Float) → T (not (isNan x)) → In (standard .ditMin) (standard .ditMax) (clamp (standard .ditMin) (standard .ditMax) x)
+dit-in = G.dit-in standard standard-good
+
+pub hint-in : (x : Float) → T (not (isNan x)) → In (standard .ratioMin) (standard .ratioMax) (clamp (standard .ratioMin) (standard .ratioMax) x)
+hint-in = G.hint-in standard standard-good
+
+pub dah-anew-in : (d h : Float) → In (standard .ditMin) (standard .ditMax) d → In (standard .ratioMin) (standard .ratioMax) h → In dahMin dahMax (mul binary32 h d)
+dah-anew-in = G.dah-anew-in standard standard-good
+
+pub dah-kept-in : (d x : Float) → In (standard .ditMin) (standard .ditMax) d → T (finite x) → In (standard .ratioMin) (standard .ratioMax) (div binary32 x d) → In dahMin dahMax x
+dah-kept-in = G.dah-kept-in standard standard-good
+
+-- the speed is from 8 to 60
+abbrev pub speedMin : Float
+speedMin = ofBits binary32 0x4100_0000
+
+abbrev pub speedMax : Float
+speedMax = ofBits binary32 0x4270_0000
+
+pub speed-in : (d : Float) → In (standard .ditMin) (standard .ditMax) d → In speedMin speedMax (div binary32 paris d)
+unfolding le ofBits div
+speed-in d i = div-in binary32 paris paris paris (standard .ditMin) (standard .ditMax) d tt tt tt tt (tt, tt) i
+
+pub seed-in : (v : Float) → T (positive v) → In (standard .ditMin) (standard .ditMax) (clamp (standard .ditMin) (standard .ditMax) (div binary32 paris v))
+seed-in = G.seed-in standard standard-good
+
+pub gap-learned-positive : (g v : Float) → T (fits binary32 g) → T (positive g) → In durationMin durationMax v → T (positive (average binary32 (standard .weight) g v))
+gap-learned-positive = G.gap-learned-positive standard standard-good
