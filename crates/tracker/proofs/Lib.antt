@@ -1,2 +1,4 @@
 pub mod Examples
 pub mod Sorting
+pub mod Summing
+pub mod Cutting

@@ -6,3 +6,4 @@ pub mod Steps
 pub mod Sound
 pub mod Answers
 pub mod Examples
+pub mod Parts

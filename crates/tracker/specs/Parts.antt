@@ -1,0 +1,14 @@
+-- What the parts of the code say. Definitions only.
+use mathlib.Core.Path.{_≡_}
+use mathlib.Core.List.{List}
+use lib.ListN.{take, drop}
+use lib.Ieee.{Float}
+use Rattle.ranges.specs.Mean.{meanOf}
+use Rattle.tracker.specs.declared.inner.lock.Halves.{Halves}
+use Rattle.tracker.specs.Lock.{cut}
+
+-- sorted marks, cut
+pub record Halved (s : List Float) (r : Halves) : Type 0 where
+  pub at : r .cut ≡ cut s
+  pub low : r .lo ≡ meanOf (take (cut s) s)
+  pub high : r .hi ≡ meanOf (drop (cut s) s)
