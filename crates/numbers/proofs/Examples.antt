@@ -7,10 +7,8 @@ use lib.Pow.{pow-add, pow-pos, pow-mono}
 use lib.Ieee.{Float, binary32, binary64, ofBits, size, round}
 use lib.Ieee.Digits.{size-lt, size-le, size-reaches}
 use Rattle.numbers.specs.Values.{narrow}
-use Rattle.numbers.specs.Log.{digits, lead, ln}
-use Rattle.numbers.specs.Root.{rootIn, floorRoot, rootOf, sqrt32Of, sqrt64Of}
-use Rattle.numbers.specs.declared.Out32.the-variants as O32
-use Rattle.numbers.specs.declared.Out64.the-variants as O64
+use Rattle.numbers.specs.Log.{digits, lead, lnOf}
+use Rattle.numbers.specs.Root.{rootIn, floorRoot, rootOf, sqrtOf}
 
 -- ---- `lead`
 module _ (m : ℕ) (M : 0 < m) (S : m < 2 ^ 32) where
@@ -46,24 +44,24 @@ module _ (m : ℕ) (M : 0 < m) (S : m < 2 ^ 32) where
       before x h = omega arith
 
 -- ---- ln 2, ln 1, ln 0.5, the least f32, the largest
-ln-two : ln (ofBits binary32 0x4000_0000) ≡ O32.Is (ofBits binary32 0x3f31_7218)
-unfolding ln digits size round ofBits
+ln-two : lnOf (ofBits binary32 0x4000_0000) ≡ ofBits binary32 0x3f31_7218
+unfolding lnOf digits size round ofBits
 ln-two = refl
 
-ln-one : ln (ofBits binary32 0x3f80_0000) ≡ O32.Is (ofBits binary32 0)
-unfolding ln digits size round ofBits
+ln-one : lnOf (ofBits binary32 0x3f80_0000) ≡ ofBits binary32 0
+unfolding lnOf digits size round ofBits
 ln-one = refl
 
-ln-three : ln (ofBits binary32 0x4040_0000) ≡ O32.Is (ofBits binary32 0x3f8c_9f54)
-unfolding ln digits size round ofBits
+ln-three : lnOf (ofBits binary32 0x4040_0000) ≡ ofBits binary32 0x3f8c_9f54
+unfolding lnOf digits size round ofBits
 ln-three = refl
 
-sqrt-two : sqrt32Of (ofBits binary32 0x4000_0000) ≡ O32.Is (ofBits binary32 0x3fb5_04f3)
-unfolding sqrt32Of rootOf floorRoot rootIn size round ofBits
+sqrt-two : sqrtOf binary32 (ofBits binary32 0x4000_0000) ≡ ofBits binary32 0x3fb5_04f3
+unfolding sqrtOf rootOf floorRoot rootIn size round ofBits
 sqrt-two = refl
 
-sqrt-two-64 : sqrt64Of (ofBits binary64 0x4000_0000_0000_0000) ≡ O64.Is (ofBits binary64 0x3ff6_a09e_667f_3bcd)
-unfolding sqrt64Of rootOf floorRoot rootIn size round ofBits
+sqrt-two-64 : sqrtOf binary64 (ofBits binary64 0x4000_0000_0000_0000) ≡ ofBits binary64 0x3ff6_a09e_667f_3bcd
+unfolding sqrtOf rootOf floorRoot rootIn size round ofBits
 sqrt-two-64 = refl
 
 -- 0.1

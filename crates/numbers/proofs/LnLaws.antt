@@ -16,74 +16,11 @@ use lib.Ieee.Exact.{HasValue}
 use lib.Ieee.Nearest.{div-same}
 use lib.Ieee.Scale.{finite}
 use borrow.Author.Tests.{ltb-true, ltb-false, le-leb, lt-leb}
-use Rattle.numbers.specs.Log.{digits, rise, fall, lead, fixed, scaled, ln}
-use Rattle.numbers.specs.declared.Out32.{Out32}
-use Rattle.numbers.specs.declared.Out32.the-variants.{Is, Refused}
-use Rattle.numbers.specs.Values.{Parted}
+use Rattle.numbers.specs.Log.{digits, rise, fall, lead, fixed, scaled, lnOf}
+use Rattle.numbers.specs.Parts.{Parted}
 use Rattle.numbers.specs.declared.rounding.Parts.{Parts}
 use Rattle.numbers.proofs.Packs.{size-exact}
-
--- ---- which values pass the two tests
-zero-is : ofBits binary32 0 ≡ fin false 0 (pos 0)
-unfolding ofBits
-zero-is = refl
-
-top-is : ofBits binary32 2139095040 ≡ inf false
-unfolding ofBits
-top-is = refl
-
-pub top-number : T (not (nanBits binary32 2139095040))
-unfolding nanBits
-top-number = tt
-
-abbrev pub Plain : Float → Type 0
-Plain v = (m : ℕ) × (e : ℤ) × (v ≡ fin false (suc m) e)
-
-none-above : (d : ℕ) → 0 * 1 * d < 0 → ⊥
-none-above d h = omega arith
-
-pub plain-at : (v : Float) → lt (fin false 0 (pos 0)) v ≡ true → lt v (inf false) ≡ true → Plain v
-unfolding lt
-plain-at nan a b = absurd (false≢true a)
-plain-at (inf true) a b = absurd (false≢true a)
-plain-at (inf false) a b = absurd (false≢true b)
-plain-at (fin true m e) a b = absurd (false≢true a)
-plain-at (fin false zero e) a b = absurd (none-above (down e) (subst (λ (x : ℕ). 0 * 1 * down e < x) (mul-one (0 * up e) ∙ zero-mul (up e)) (ltb-true (0 * 1 * down e) (0 * up e * 1) a)))
-plain-at (fin false (suc m) e) a b = (m, e, refl)
-
-pub plain : (v : Float) → lt (ofBits binary32 0) v ≡ true → lt v (ofBits binary32 2139095040) ≡ true → Plain v
-plain v a b = plain-at v (sym (ap (λ (x : Float). lt x v) zero-is) ∙ a) (sym (ap (λ (x : Float). lt v x) top-is) ∙ b)
-
-pub plain-finite : (v : Float) → Plain v → T (finite v)
-plain-finite v p = subst (λ (x : Float). T (finite x)) (sym (p .2)) tt
-
-pub plain-widens : (v : Float) → T (fits binary32 v) → Plain v → T (fits binary64 v && not (isNan v))
-unfolding isNan
-plain-widens v f p = and-i (fits binary64 v) (not (isNan v)) (fits-widens v f) (subst (λ (x : Float). T (not (isNan x))) (sym (p .2)) tt)
-
--- the rest is refused
-nothing : (x d : ℕ) → x * 1 ≤ 0 * 1 * d → x ≤ 0
-nothing x d h = omega arith
-
-not-above-at : (v : Float) → lt (fin false 0 (pos 0)) v ≡ false → Refused 10 ≡ ln v
-unfolding lt ln
-not-above-at nan a = refl
-not-above-at (inf s) a = refl
-not-above-at (fin true m e) a = refl
-not-above-at (fin false zero e) a = refl
-not-above-at (fin false (suc m) e) a = absurd (lt-irrefl 0 (lt-of-lt-of-le (mul-pos (zero-lt-suc m) (up-pos e)) (nothing (suc m * up e) (down e) (ltb-false (0 * 1 * down e) (suc m * up e * 1) a))))
-
-pub not-above : (v : Float) → lt (ofBits binary32 0) v ≡ false → Refused 10 ≡ ln v
-not-above v a = not-above-at v (sym (ap (λ (x : Float). lt x v) zero-is) ∙ a)
-
-not-below-at : (v : Float) → lt v (inf false) ≡ false → Refused 10 ≡ ln v
-unfolding lt ln
-not-below-at nan b = refl
-not-below-at (inf s) b = refl
-not-below-at (fin s m e) b = absurd (true≢false b)
-
-pub not-below : (v : Float) → lt v (ofBits binary32 2139095040) ≡ false → Refused 10 ≡ ln v
-not-below v b = not-below-at v (sym (ap (λ (x : Float). lt v x) top-is) ∙ b)
+use Rattle.numbers.proofs.Plain.{Plain}
 
 -- ---- what a format holds
 abbrev pub Held : ℕ → ℤ → Type 0
@@ -227,16 +164,16 @@ module _ (m : ℕ) (e : ℤ) (sig j : ℕ) (M : 0 < m) (F : Held m e) (W : m * u
       go : (r f z k x : ℕ) → k + f ≡ r + 1074 → z + k ≡ 53 + j → (r + z) * 2 ^ 24 + x + 1075 * 2 ^ 24 ≡ (j + 53) * 2 ^ 24 + x + (f + 1) * 2 ^ 24
       go r f z k x a b = omega arith
 
--- ---- all that the code of `ln32` asks, of a v that passes its two tests and its parts
+-- ---- all that the code of `ln_of` asks, of a v that is finite and above zero, and its parts
 pub record Logged (v : Float) (sig j : ℕ) : Type 0 where
   pub full : 2 ^ 52 ≤ sig
   pub small : sig < 2 ^ 53
   pub least : 873 ≤ j
   pub most : j < 1150
-  pub is : (t : ℕ) → t ≡ digits 24 (sig / 2 ^ 21) 0 → Is (scaled (minus ((j + 53) * 2 ^ 24 + t) (1075 * 2 ^ 24))) ≡ ln v
+  pub is : (t : ℕ) → t ≡ digits 24 (sig / 2 ^ 21) 0 → scaled (minus ((j + 53) * 2 ^ 24 + t) (1075 * 2 ^ 24)) ≡ lnOf v
 
 pub logged : (v : Float) → T (fits binary32 v) → Plain v → (p : Parts) → Parted v p → Logged v (p .sig) (p .j)
-unfolding ln
+unfolding lnOf
 logged v f q p a =
     let m = q .0 in
     let e = q .1 in
@@ -248,9 +185,9 @@ logged v f q p a =
       least = j-ge (suc m) e (p .sig) (p .j) (zero-lt-suc m) F (w .1) (a .small) (a .lead);
       most = j-lt (suc m) e (p .sig) (p .j) (zero-lt-suc m) F (w .1) (a .small) (a .lead);
       is = λ t r.
-          ap (λ (x : ℕ). Is (scaled (minus ((p .j + 53) * 2 ^ 24 + x) (1075 * 2 ^ 24)))) r
-          ∙ ap (λ (x : ℤ). Is (scaled x)) (sym (fixed-is (suc m) e (p .sig) (p .j) (zero-lt-suc m) F (w .1) (a .small) (a .lead)))
-          ∙ ap ln (sym (q .2));
+          ap (λ (x : ℕ). scaled (minus ((p .j + 53) * 2 ^ 24 + x) (1075 * 2 ^ 24))) r
+          ∙ ap scaled (sym (fixed-is (suc m) e (p .sig) (p .j) (zero-lt-suc m) F (w .1) (a .small) (a .lead)))
+          ∙ ap lnOf (sym (q .2));
     }
 
 -- t is below 2 ^ 24, and H is what the code has for the larger part
@@ -276,16 +213,16 @@ module _ (v : Float) (sig j t : ℕ) (G : Logged v sig j) (TL : t < 2 ^ 24) (TI 
       go : (h i : ℕ) → h ≡ (i + 53) * 2 ^ 24 + t → 873 ≤ i → (18035507200 - h) * 2977044472 < 2 ^ 64
       go h i a b = omega arith
 
-  pub over : (r : Float) → 18035507200 ≤ H → r ≡ round binary32 false ((H - 18035507200) * 2977044472) (2 ^ 56) → Is r ≡ ln v
+  pub over : (r : Float) → 18035507200 ≤ H → r ≡ round binary32 false ((H - 18035507200) * 2977044472) (2 ^ 56) → r ≡ lnOf v
   over r h e =
-      ap Is e
-      ∙ ap (λ (x : ℤ). Is (scaled x)) (sym (minus-yes H 18035507200 h) ∙ ap (λ (x : ℕ). minus x 18035507200) H-is)
+      e
+      ∙ ap scaled (sym (minus-yes H 18035507200 h) ∙ ap (λ (x : ℕ). minus x 18035507200) H-is)
       ∙ G .is t TI
 
-  pub under : (r : Float) → H < 18035507200 → r ≡ round binary32 true ((18035507200 - H) * 2977044472) (2 ^ 56) → Is r ≡ ln v
+  pub under : (r : Float) → H < 18035507200 → r ≡ round binary32 true ((18035507200 - H) * 2977044472) (2 ^ 56) → r ≡ lnOf v
   under r h e =
-      ap Is (e ∙ ap (λ (x : ℕ). round binary32 true (x * 2977044472) (2 ^ 56)) (step H h))
-      ∙ ap (λ (x : ℤ). Is (scaled x)) (sym (minus-no H 18035507200 h) ∙ ap (λ (x : ℕ). minus x 18035507200) H-is)
+      (e ∙ ap (λ (x : ℕ). round binary32 true (x * 2977044472) (2 ^ 56)) (step H h))
+      ∙ ap scaled (sym (minus-no H 18035507200 h) ∙ ap (λ (x : ℕ). minus x 18035507200) H-is)
       ∙ G .is t TI
     where
       step : (x : ℕ) → x < 18035507200 → 18035507200 - x ≡ suc (18035507200 - suc x)

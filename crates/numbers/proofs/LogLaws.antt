@@ -2,12 +2,12 @@
 use mathlib.Core.Path.{_≡_, refl, sym, ap, _∙_, subst}
 use mathlib.Core.Bool.{Bool, true, false, cond}
 use Prim.Native.Nat.{ℕ, zero, suc, _+_, _-_, _*_, _/_, _%_, _^_, _≤_, _<_}
-use native.Mathlib.Nat.{le-trans, lt-of-lt-of-le, lt-of-le-of-lt, le-of-lt, mul-le-mul-left, mul-le-mul-right, mul-lt-mul-of-pos-right, le-div-iff-mul-le, div-lt-iff-lt-mul, pow-succ'}
+use native.Mathlib.Nat.{le-trans, lt-of-lt-of-le, lt-of-le-of-lt, le-of-lt, mul-le-mul-left, mul-le-mul-right, mul-lt-mul-of-pos-right, le-div-iff-mul-le, div-lt-iff-lt-mul, div-one, pow-succ'}
 use native.Mathlib.Numerals.{add-one}
 use native.Mathlib.Omega.{arith}
 use lib.Dec.{leb, lit≤, lit<}
 use lib.Pow.{pow-pos}
-use borrow.Author.Tests.{le-leb, lt-leb}
+use borrow.Author.Tests.{leb-true, leb-false}
 use Rattle.numbers.specs.Log.{squared, digit, next, digits}
 
 module _ (y : ℕ) (lo : 2 ^ 31 ≤ y) (hi : y < 2 ^ 32) where
@@ -20,26 +20,49 @@ module _ (y : ℕ) (lo : 2 ^ 31 ≤ y) (hi : y < 2 ^ 32) where
   pub squared-lt : squared y < 2 ^ 33
   squared-lt = div-lt-iff-lt-mul (pow-pos 31) .1 square-fits
 
+-- the bit, as the code has it: what stands above 32 places
+module _ (s : ℕ) (L : s < 2 ^ 33) where
+  pub bit-le : s / 2 ^ 32 ≤ 1
+  bit-le = omega arith
+
+  bit-one : 2 ^ 32 ≤ s → s / 2 ^ 32 ≡ 1
+  bit-one h = omega arith
+
+  bit-zero : s < 2 ^ 32 → s / 2 ^ 32 ≡ 0
+  bit-zero h = omega arith
+
+  -- by whether s is at least 2 ^ 32, the bit and what is left of s
+  pub bit-is : (b : Bool) → leb (2 ^ 32) s ≡ b → (s / 2 ^ 32 ≡ cond b 1 0) × (s / 2 ^ (s / 2 ^ 32) ≡ cond b (s / 2) s)
+  bit-is true e = let o = bit-one (leb-true (2 ^ 32) s e) in (o, ap (λ (x : ℕ). s / 2 ^ x) o)
+  bit-is false e = let z = bit-zero (leb-false (2 ^ 32) s e) in (z, ap (λ (x : ℕ). s / 2 ^ x) z ∙ div-one s)
+
 one-less : (i : ℕ) → i < 24 → 24 - i ≡ suc (24 - (i + 1))
 one-less i h = omega arith
 
-turn : (d y t : ℕ) → digits (suc d) y t ≡ digits d (next y) (2 * t + digit y)
+step : (d y t : ℕ) → digits (suc d) y t ≡ digits d (next y) (2 * t + digit y)
 unfolding digits
-turn d y t = refl
+step d y t = refl
 
-pub turn-one : (i y t : ℕ) → i < 24 → 2 ^ 32 ≤ squared y → digits (24 - (i + 1)) (squared y / 2) (2 * t + 1) ≡ digits (24 - i) y t
-turn-one i y t h l =
-    sym (ap (λ (d : ℕ). digits d y t) (one-less i h) ∙ turn (24 - (i + 1)) y t
-    ∙ ap (λ (b : Bool). digits (24 - (i + 1)) (cond b (squared y / 2) (squared y)) (2 * t + cond b 1 0)) (le-leb (2 ^ 32) (squared y) l))
+-- ---- one turn: the next y and t, and the digits that are left
+module _ (y : ℕ) (lo : 2 ^ 31 ≤ y) (hi : y < 2 ^ 32) where
+  is : (squared y / 2 ^ 32 ≡ digit y) × (squared y / 2 ^ (squared y / 2 ^ 32) ≡ next y)
+  is = bit-is (squared y) (squared-lt y lo hi) (leb (2 ^ 32) (squared y)) refl
 
-plus-zero : (x : ℕ) → x + 0 ≡ x
-plus-zero x = omega arith
+  pub turned : (i t : ℕ) → i < 24 → digits (24 - (i + 1)) (squared y / 2 ^ (squared y / 2 ^ 32)) (2 * t + squared y / 2 ^ 32) ≡ digits (24 - i) y t
+  turned i t h =
+      ap (λ (x : ℕ). digits (24 - (i + 1)) x (2 * t + squared y / 2 ^ 32)) (is .1)
+      ∙ ap (λ (x : ℕ). digits (24 - (i + 1)) (next y) (2 * t + x)) (is .0)
+      ∙ sym (ap (λ (d : ℕ). digits d y t) (one-less i h) ∙ step (24 - (i + 1)) y t)
 
-pub turn-zero : (i y t : ℕ) → i < 24 → squared y < 2 ^ 32 → digits (24 - (i + 1)) (squared y) (2 * t) ≡ digits (24 - i) y t
-turn-zero i y t h l =
-    sym (ap (λ (d : ℕ). digits d y t) (one-less i h) ∙ turn (24 - (i + 1)) y t
-    ∙ ap (λ (b : Bool). digits (24 - (i + 1)) (cond b (squared y / 2) (squared y)) (2 * t + cond b 1 0)) (lt-leb (2 ^ 32) (squared y) l)
-    ∙ ap (λ (x : ℕ). digits (24 - (i + 1)) (squared y) x) (plus-zero (2 * t)))
+  in-word : (b : Bool) → leb (2 ^ 32) (squared y) ≡ b → (2 ^ 31 ≤ cond b (squared y / 2) (squared y)) × (cond b (squared y / 2) (squared y) < 2 ^ 32)
+  in-word true e = go (squared y) (leb-true (2 ^ 32) (squared y) e) (squared-lt y lo hi)
+    where
+      go : (s : ℕ) → 2 ^ 32 ≤ s → s < 2 ^ 33 → (2 ^ 31 ≤ s / 2) × (s / 2 < 2 ^ 32)
+      go s a b = (omega arith, omega arith)
+  in-word false e = (squared-ge y lo hi, leb-false (2 ^ 32) (squared y) e)
+
+  pub turned-in : (2 ^ 31 ≤ squared y / 2 ^ (squared y / 2 ^ 32)) × (squared y / 2 ^ (squared y / 2 ^ 32) < 2 ^ 32)
+  turned-in = subst (λ (x : ℕ). (2 ^ 31 ≤ x) × (x < 2 ^ 32)) (sym (is .1)) (in-word (leb (2 ^ 32) (squared y)) refl)
 
 pub none-left : (i y t : ℕ) → i ≤ 24 → 24 ≤ i → digits (24 - i) y t ≡ t
 unfolding digits
@@ -49,8 +72,8 @@ none-left i y t h l = ap (λ (d : ℕ). digits d y t) (go i h l)
     go x a b = omega arith
 
 -- one more place
-pub more : (t i : ℕ) → t < 2 ^ i → 2 * t + 1 < 2 ^ (i + 1)
-more t i h = subst (λ (x : ℕ). 2 * t + 1 < x) (sym (ap (λ (x : ℕ). 2 ^ x) (add-one i) ∙ pow-succ' 2 i)) (go (2 ^ i) h)
+pub more : (t d i : ℕ) → d ≤ 1 → t < 2 ^ i → 2 * t + d < 2 ^ (i + 1)
+more t d i k h = subst (λ (x : ℕ). 2 * t + d < x) (sym (ap (λ (x : ℕ). 2 ^ x) (add-one i) ∙ pow-succ' 2 i)) (go (2 ^ i) h)
   where
-    go : (p : ℕ) → t < p → 2 * t + 1 < 2 * p
+    go : (p : ℕ) → t < p → 2 * t + d < 2 * p
     go p l = omega arith

@@ -14,40 +14,9 @@ use lib.Ieee.Fits.{down-pos, eq→eqb}
 use lib.Ieee.Exact.{HasValue, odd-sign}
 use lib.Ieee.Scale.{finite, round-same}
 use borrow.Author.Tests.{eq-eqb, ne-eqb}
-use Rattle.numbers.specs.Values.{narrow, Parted}
+use Rattle.numbers.specs.Parts.{Parted}
+use Rattle.numbers.specs.Values.{narrow}
 use Rattle.numbers.specs.declared.rounding.Parts.{Parts}
-
--- ---- finite, by two comparisons with the infinities
-pub top-number : T (not (nanBits binary64 0x7ff0_0000_0000_0000))
-unfolding nanBits
-top-number = tt
-
-top-is : ofBits binary64 0x7ff0_0000_0000_0000 ≡ inf false
-unfolding ofBits
-top-is = refl
-
-minus-is : neg (inf false) ≡ inf true
-unfolding neg
-minus-is = refl
-
-above : (v : Float) → lt (inf true) v ≡ true → lt v (inf false) ≡ finite v
-unfolding lt
-above nan h = absurd (false≢true h)
-above (inf true) h = absurd (false≢true h)
-above (inf false) h = refl
-above (fin s m e) h = refl
-
-not-above : (v : Float) → lt (inf true) v ≡ false → false ≡ finite v
-unfolding lt
-not-above nan h = refl
-not-above (inf s) h = refl
-not-above (fin s m e) h = absurd (true≢false h)
-
-pub finite-above : (v : Float) → lt (neg (ofBits binary64 0x7ff0_0000_0000_0000)) v ≡ true → lt v (ofBits binary64 0x7ff0_0000_0000_0000) ≡ finite v
-finite-above v h = ap (λ (t : Float). lt v t) top-is ∙ above v (sym (ap (λ (t : Float). lt t v) (ap neg top-is ∙ minus-is)) ∙ h)
-
-pub finite-not : (v : Float) → lt (neg (ofBits binary64 0x7ff0_0000_0000_0000)) v ≡ false → false ≡ finite v
-finite-not v h = not-above v (sym (ap (λ (t : Float). lt t v) (ap neg top-is ∙ minus-is)) ∙ h)
 
 pub finite-number : (v : Float) → T (finite v) → T (not (isNan v))
 unfolding isNan

@@ -16,16 +16,13 @@ use lib.Ieee.Exact.{HasValue}
 use lib.Ieee.Nearest.{div-same}
 use lib.Ieee.Scale.{round-same}
 use borrow.Author.Tests.{eq-eqb, ne-eqb, eqb-true, ltb-false}
-use Rattle.numbers.specs.Values.{Parted}
 use Rattle.numbers.specs.declared.rounding.Parts.{Parts}
-use Rattle.numbers.specs.Root.{floorRoot, squareUnits, rootOf, Rooted, sqrt32Of, sqrt64Of}
-use Rattle.numbers.specs.declared.Out32.{Out32}
-use Rattle.numbers.specs.declared.Out32.the-variants as O32
-use Rattle.numbers.specs.declared.Out64.{Out64}
-use Rattle.numbers.specs.declared.Out64.the-variants as O64
+use Rattle.numbers.specs.Parts.{Parted, Rooted}
+use Rattle.numbers.specs.Root.{floorRoot, squareUnits, rootOf, sqrtOf}
 use Rattle.numbers.proofs.FloorRoot.{floor-root, square-mono, square-lt-back}
 use Rattle.numbers.proofs.Between.{round-between}
-use Rattle.numbers.proofs.LnLaws.{Plain, plain-at, held}
+use Rattle.numbers.proofs.LnLaws.{held}
+use Rattle.numbers.proofs.Plain.{Plain}
 
 pow-lt-back : (i p : ℕ) → 2 ^ i < 2 ^ p → i < p
 pow-lt-back i p h = lt-of-not-le (λ (g : p ≤ i). lt-irrefl (2 ^ i) (lt-of-lt-of-le h (pow-mono g)))
@@ -289,9 +286,9 @@ module _ (v : Float) (p : Plain v) (a : Parts) (A : Parted v a) where
   pub root-fits : (0 < a .sig) × (a .sig < 2 ^ 53) × (a .j < 2046)
   root-fits = (sig-pos, A .small, A .near)
 
-  pub root64 : (w k : ℕ) → Rooted (a .sig) (a .j) w k → (r : Float) → r ≡ round binary64 false (w * 2 ^ k) (2 ^ 1074) → O64.Is r ≡ sqrt64Of v
-  unfolding sqrt64Of
-  root64 w k R r h = ap O64.Is (h ∙ rooted binary64 m e (a .sig) (a .j) w k (k + 1) R value (go k)) ∙ ap sqrt64Of (sym (p .2))
+  pub root64 : (w k : ℕ) → Rooted (a .sig) (a .j) w k → (r : Float) → r ≡ round binary64 false (w * 2 ^ k) (2 ^ 1074) → r ≡ sqrtOf binary64 v
+  unfolding sqrtOf
+  root64 w k R r h = h ∙ rooted binary64 m e (a .sig) (a .j) w k (k + 1) R value (go k) ∙ ap (sqrtOf binary64) (sym (p .2))
     where
       go : (x : ℕ) → x + 1 + 1073 ≡ x + 1074
       go x = omega arith
@@ -303,9 +300,9 @@ module _ (v : Float) (p : Plain v) (a : Parts) (A : Parted v a) where
       (le-trans (le-trans (le-of-eq (sym (one-mul (2 ^ 1074)))) (mul-le-mul-right (2 ^ 1074) (mul-pos (zero-lt-suc (p .0)) (up-pos e))))
       (le-trans (le-of-eq value) (mul-le-mul-left (a .sig * 2 ^ a .j) d))) (pow-pos 149)
 
-  pub root32 : T (fits binary32 v) → (w k : ℕ) → Rooted (a .sig) (a .j) w k → (r : Float) → r ≡ round binary32 false (w * 2 ^ k) (2 ^ 1074) → O32.Is r ≡ sqrt32Of v
-  unfolding sqrt32Of
-  root32 F w k R r h = ap O32.Is (h ∙ rooted binary32 m e (a .sig) (a .j) w k (k - 924) R value (back k far)) ∙ ap sqrt32Of (sym (p .2))
+  pub root32 : T (fits binary32 v) → (w k : ℕ) → Rooted (a .sig) (a .j) w k → (r : Float) → r ≡ round binary32 false (w * 2 ^ k) (2 ^ 1074) → r ≡ sqrtOf binary32 v
+  unfolding sqrtOf
+  root32 F w k R r h = h ∙ rooted binary32 m e (a .sig) (a .j) w k (k - 924) R value (back k far) ∙ ap (sqrtOf binary32) (sym (p .2))
     where
       d : down e ≤ 2 ^ 149
       d = held (p .0) e (subst (λ (x : Float). T (fits binary32 x)) (p .2) F) .1
@@ -325,112 +322,3 @@ module _ (v : Float) (p : Plain v) (a : Parts) (A : Parted v a) where
 
       back : (x : ℕ) → 924 ≤ x → x - 924 + 1073 ≡ x + 149
       back x g = omega arith
-
--- ---- the other values, by the tests
-abbrev origin : Float
-origin = fin false 0 (pos 0)
-
-and-first : (a b : Bool) → (a && b) ≡ true → a ≡ true
-and-first true b h = refl
-and-first false b h = h
-
-no-zero : (x d : ℕ) → 0 < x → x * 1 ≡ 0 * 1 * d → ⊥
-no-zero x d p h = omega arith
-
-abbrev Zero : Float → Type 0
-Zero v = (s : Bool) × (e : ℤ) × (v ≡ fin s zero e)
-
-zero-at : (v : Float) → eq v origin ≡ true → Zero v
-unfolding eq
-zero-at nan h = absurd (false≢true h)
-zero-at (inf s) h = absurd (false≢true h)
-zero-at (fin s zero e) h = (s, e, refl)
-zero-at (fin s (suc m) e) h =
-    absurd (no-zero (suc m * up e) (down e) (mul-pos (zero-lt-suc m) (up-pos e))
-    (eqb-true (suc m * up e * 1) (0 * 1 * down e) (and-first (eqb (suc m * up e * 1) (0 * 1 * down e)) (Bool·beq s false || eqb (suc m * up e * 1) 0) h)))
-
-data Bad : Float → Type 0 where
-  bad-nan : Bad nan
-  bad-inf : (s : Bool) → Bad (inf s)
-  bad-below : (m : ℕ) (e : ℤ) → Bad (fin true (suc m) e)
-
-nil : (x d : ℕ) → x ≡ 0 → x * 1 ≡ 0 * 1 * d
-nil x d h = omega arith
-
-nil-one : (x : ℕ) → x ≡ 0 → x * 1 ≡ 0
-nil-one x h = omega arith
-
-or-true : (s : Bool) → (s || true) ≡ true
-or-true true = refl
-or-true false = refl
-
-nothing : (x d : ℕ) → x * 1 ≤ 0 * 1 * d → x ≤ 0
-nothing x d h = omega arith
-
-bad-at : (v : Float) → lt origin v ≡ false → eq v origin ≡ false → Bad v
-unfolding lt eq
-bad-at nan h k = bad-nan
-bad-at (inf s) h k = bad-inf s
-bad-at (fin s zero e) h k =
-    absurd (true≢false
-    (sym (ap (λ (b : Bool). b && (Bool·beq s false || eqb (0 * up e * 1) 0)) (eq-eqb (0 * up e * 1) (0 * 1 * down e) (nil (0 * up e) (down e) (zero-mul (up e))))
-    ∙ ap (λ (b : Bool). Bool·beq s false || b) (eq-eqb (0 * up e * 1) 0 (nil-one (0 * up e) (zero-mul (up e)))) ∙ or-true (Bool·beq s false)) ∙ k))
-bad-at (fin true (suc m) e) h k = bad-below m e
-bad-at (fin false (suc m) e) h k = absurd (lt-irrefl 0 (lt-of-lt-of-le (mul-pos (zero-lt-suc m) (up-pos e)) (nothing (suc m * up e) (down e) (ltb-false (0 * 1 * down e) (suc m * up e * 1) h))))
-
-bad-high : (v : Float) → lt v (inf false) ≡ false → Bad v
-unfolding lt
-bad-high nan h = bad-nan
-bad-high (inf s) h = bad-inf s
-bad-high (fin s m e) h = absurd (true≢false h)
-
-bad32 : (v : Float) → Bad v → O32.Refused 11 ≡ sqrt32Of v
-unfolding sqrt32Of
-bad32 v bad-nan = refl
-bad32 v (bad-inf s) = refl
-bad32 v (bad-below m e) = refl
-
-bad64 : (v : Float) → Bad v → O64.Refused 11 ≡ sqrt64Of v
-unfolding sqrt64Of
-bad64 v bad-nan = refl
-bad64 v (bad-inf s) = refl
-bad64 v (bad-below m e) = refl
-
-zero32-is : ofBits binary32 0 ≡ origin
-unfolding ofBits
-zero32-is = refl
-
-zero64-is : ofBits binary64 0 ≡ origin
-unfolding ofBits
-zero64-is = refl
-
-top32-is : ofBits binary32 0x7f80_0000 ≡ inf false
-unfolding ofBits
-top32-is = refl
-
-top64-is : ofBits binary64 0x7ff0_0000_0000_0000 ≡ inf false
-unfolding ofBits
-top64-is = refl
-
-pub plain64 : (v : Float) → lt v (ofBits binary64 0x7ff0_0000_0000_0000) ≡ true → lt (ofBits binary64 0) v ≡ true → Plain v
-plain64 v h k = plain-at v (ap (λ (x : Float). lt x v) (sym zero64-is) ∙ k) (ap (λ (x : Float). lt v x) (sym top64-is) ∙ h)
-
-pub zero32 : (v : Float) → eq v (ofBits binary32 0) ≡ true → O32.Is v ≡ sqrt32Of v
-unfolding sqrt32Of
-zero32 v h = let z = zero-at v (ap (λ (x : Float). eq v x) (sym zero32-is) ∙ h) in ap O32.Is (z .2) ∙ ap sqrt32Of (sym (z .2))
-
-pub zero64 : (v : Float) → eq v (ofBits binary64 0) ≡ true → O64.Is v ≡ sqrt64Of v
-unfolding sqrt64Of
-zero64 v h = let z = zero-at v (ap (λ (x : Float). eq v x) (sym zero64-is) ∙ h) in ap O64.Is (z .2) ∙ ap sqrt64Of (sym (z .2))
-
-pub refused32 : (v : Float) → lt (ofBits binary32 0) v ≡ false → eq v (ofBits binary32 0) ≡ false → O32.Refused 11 ≡ sqrt32Of v
-refused32 v h k = bad32 v (bad-at v (ap (λ (x : Float). lt x v) (sym zero32-is) ∙ h) (ap (λ (x : Float). eq v x) (sym zero32-is) ∙ k))
-
-pub refused64 : (v : Float) → lt (ofBits binary64 0) v ≡ false → eq v (ofBits binary64 0) ≡ false → O64.Refused 11 ≡ sqrt64Of v
-refused64 v h k = bad64 v (bad-at v (ap (λ (x : Float). lt x v) (sym zero64-is) ∙ h) (ap (λ (x : Float). eq v x) (sym zero64-is) ∙ k))
-
-pub above32 : (v : Float) → lt v (ofBits binary32 0x7f80_0000) ≡ false → O32.Refused 11 ≡ sqrt32Of v
-above32 v h = bad32 v (bad-high v (ap (λ (x : Float). lt v x) (sym top32-is) ∙ h))
-
-pub above64 : (v : Float) → lt v (ofBits binary64 0x7ff0_0000_0000_0000) ≡ false → O64.Refused 11 ≡ sqrt64Of v
-above64 v h = bad64 v (bad-high v (ap (λ (x : Float). lt v x) (sym top64-is) ∙ h))

@@ -1,17 +1,17 @@
--- The natural logarithm as the document words it: 24 binary digits of the logarithm to the base 2, by squaring, times ln 2 as 2977044472 / 2 ^ 32, rounded once. Definitions only.
+-- The logarithm of document 01, "Root, rounding, logarithm": 24 binary digits of the logarithm to the base 2, by squaring, times ln 2 as 2977044472 / 2 ^ 32, rounded once. Definitions only.
 use mathlib.Core.Bool.{Bool, true, false, cond}
 use Prim.Native.Nat.{ℕ, zero, suc, _+_, _-_, _*_, _/_, _^_}
 use lib.Dec.{leb}
 use lib.IntN.{ℤ, pos, negsuc}
 use lib.Ieee.{Float, nan, inf, fin, binary32, size, minus, round}
-use Rattle.numbers.specs.declared.Out32.{Out32}
-use Rattle.numbers.specs.declared.Out32.the-variants.{Is, Refused}
+use lib.Ieee.Positive.{positive}
+use Rattle.numbers.specs.Answers.{Said, value, refused}
 
 -- y times y, divided by 2 ^ 31, rounded down
 abbrev pub squared : ℕ → ℕ
 squared y = y * y / 2 ^ 31
 
--- whether that is at least 2 ^ 32: then the digit is 1, and it is halved, rounded down
+-- whether that is at least 2 ^ 32: then the bit is 1, and it is halved, rounded down
 abbrev pub full : ℕ → Bool
 full y = leb (2 ^ 32) (squared y)
 
@@ -21,7 +21,7 @@ digit y = cond (full y) 1 0
 abbrev pub next : ℕ → ℕ
 next y = cond (full y) (squared y / 2) (squared y)
 
--- d digits, the first one highest, after those of t
+-- d bits, the first one highest, after those of t
 unfoldable pub digits : ℕ → ℕ → ℕ → ℕ
 digits zero y t = t
 digits (suc d) y t = digits d (next y) (2 * t + digit y)
@@ -48,10 +48,15 @@ abbrev pub scaled : ℤ → Float
 scaled (pos n) = round binary32 false (n * 2977044472) (2 ^ 56)
 scaled (negsuc n) = round binary32 true (suc n * 2977044472) (2 ^ 56)
 
--- refused with 10 unless v is finite and above zero
-unfoldable pub ln : Float → Out32
-ln nan = Refused 10
-ln (inf s) = Refused 10
-ln (fin true m e) = Refused 10
-ln (fin false zero e) = Refused 10
-ln (fin false (suc m) e) = Is (scaled (fixed (suc m) e))
+-- the logarithm of m * 2 ^ e; of what is not finite and above zero there is none
+unfoldable pub lnOf : Float → Float
+lnOf nan = nan
+lnOf (inf s) = nan
+lnOf (fin s zero e) = nan
+lnOf (fin true (suc m) e) = nan
+lnOf (fin false (suc m) e) = scaled (fixed (suc m) e)
+
+-- refusal 10: the input is not finite and positive
+unfoldable pub lnSaid : Float → Said
+unfolding lnOf
+lnSaid v = cond (positive v) (value (lnOf v)) (refused 10)

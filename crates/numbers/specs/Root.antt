@@ -1,4 +1,5 @@
--- The square root, rounded to the nearest value of a format. Definitions only; `proofs/Root..` shows that no other value of the format is as near.
+-- The square root of document 01, "Root, rounding, logarithm": IEEE's, rounded to the nearest value of a format, over whole numbers. Definitions only;
+-- `proofs/NearestRoot.antt` shows that no other value of the format is as near.
 use mathlib.Core.Path.{_≡_}
 use mathlib.Core.Bool.{Bool, true, false, cond}
 use Prim.Native.Nat.{ℕ, zero, suc, _+_, _-_, _*_, _/_, _^_, _≤_, _<_}
@@ -7,11 +8,7 @@ use lib.IntN.{ℤ}
 use lib.Ieee.{Float, nan, inf, fin, Format, binary32, binary64, low, up, down, size, round, fits}
 use lib.Ieee.Exact.{HasValue}
 use lib.Ieee.Scale.{finite}
-use Rattle.numbers.specs.declared.Out32.{Out32}
-use Rattle.numbers.specs.declared.Out32.the-variants as O32
-use Rattle.numbers.specs.declared.Out64.{Out64}
-use Rattle.numbers.specs.declared.Out64.the-variants as O64
-use Rattle.numbers.specs.declared.root.Extract.{Extract}
+use Rattle.numbers.specs.Answers.{Said, value, refused}
 
 -- the whole part of the root of an n below 4 ^ d: the largest r with r * r ≤ n, from that of n / 4
 unfoldable pub rootIn : ℕ → ℕ → ℕ
@@ -32,40 +29,26 @@ rootOf f m e =
     let r = floorRoot n in
     round f false (2 * r + cond (eqb (r * r) n) 0 1) (2 ^ (low f + 1))
 
--- refused with 11: a NaN, an infinity, and what is below zero. A zero is its own root, with its sign
-unfoldable pub sqrt32Of : Float → Out32
-sqrt32Of nan = O32.Refused 11
-sqrt32Of (inf s) = O32.Refused 11
-sqrt32Of (fin s zero e) = O32.Is (fin s zero e)
-sqrt32Of (fin true (suc m) e) = O32.Refused 11
-sqrt32Of (fin false (suc m) e) = O32.Is (rootOf binary32 (suc m) e)
+-- IEEE's root on every value, as Rust's `sqrt` has it: a zero is its own root, with its sign, and what is below zero has none
+unfoldable pub sqrtOf : Format → Float → Float
+unfolding rootOf
+sqrtOf f nan = nan
+sqrtOf f (inf true) = nan
+sqrtOf f (inf false) = inf false
+sqrtOf f (fin s zero e) = fin s zero e
+sqrtOf f (fin true (suc m) e) = nan
+sqrtOf f (fin false (suc m) e) = rootOf f (suc m) e
 
-unfoldable pub sqrt64Of : Float → Out64
-sqrt64Of nan = O64.Refused 11
-sqrt64Of (inf s) = O64.Refused 11
-sqrt64Of (fin s zero e) = O64.Is (fin s zero e)
-sqrt64Of (fin true (suc m) e) = O64.Refused 11
-sqrt64Of (fin false (suc m) e) = O64.Is (rootOf binary64 (suc m) e)
+-- refusal 11: NaN, infinite or below zero
+abbrev pub rootless : Float → Bool
+rootless nan = true
+rootless (inf s) = true
+rootless (fin s zero e) = false
+rootless (fin s (suc m) e) = s
 
--- ---- what the parts of the code say
-
--- q is the whole part of the root of m * 2 ^ 48
-pub record Extracted (m : ℕ) (r : Extract) : Type 0 where
-  pub split : r .q * r .q + r .rest ≡ m * 2 ^ 48
-  pub rests : r .rest ≤ 2 * r .q
-  pub small : r .q < 2 ^ 56
-
--- w is twice the whole part q of the root of sig * 2 ^ sh * 2 ^ 48, and one more where that root is not whole
-pub record Rooted (sig j w k : ℕ) : Type 0 where
-  pub sh : ℕ
-  pub q : ℕ
-  pub rest : ℕ
-  pub split : q * q + rest ≡ sig * 2 ^ sh * 2 ^ 48
-  pub rests : rest ≤ 2 * q
-  pub large : 2 ^ 62 ≤ sig * 2 ^ sh
-  pub small : sig * 2 ^ sh < 2 ^ 64
-  pub even : sh + 2 * k ≡ j + 1024
-  pub is : w ≡ 2 * q + cond (eqb rest 0) 0 1
+unfoldable pub sqrtSaid : Format → Float → Said
+unfolding sqrtOf
+sqrtSaid f v = cond (rootless v) (refused 11) (value (sqrtOf f v))
 
 -- ---- what makes a value the root, rounded to the nearest: the statement that `proofs/NearestRoot.antt` proves of `rootOf`
 

@@ -1,16 +1,18 @@
-// Roots, rounding and the logarithm of document 01, computed over whole numbers.
+// Roots, rounding and the logarithm of document 01, computed over whole numbers, and what Rust has for the order of floats.
+pub mod inner;
 pub mod log;
+pub mod order;
 pub mod root;
 pub mod rounding;
 
-// What a function of an f32 answers.
-pub enum Out32 {
+// What a call on an f32 answers: the value, or the number of a refusal.
+pub enum Answer32 {
     Is(f32),
     Refused(u8),
 }
 
-// What a function of an f64 answers.
-pub enum Out64 {
+// What a call on an f64 answers: the value, or the number of a refusal.
+pub enum Answer64 {
     Is(f64),
     Refused(u8),
 }

@@ -1,10 +1,10 @@
 // The logarithm of document 01, "Root, rounding, logarithm".
-use crate::Out32;
-use crate::rounding::ratio32;
-use crate::rounding::take_apart;
+use crate::Answer32;
+use crate::inner::ln_of;
 ghost use mathlib.Core.Path.{_≡_};
 ghost use Prim.Native.Nat.{ℕ, _^_, _<_, _≤_};
-ghost use Rattle.numbers.specs.Log.{digits, ln};
+ghost use Rattle.numbers.specs.Answers.{said32};
+ghost use Rattle.numbers.specs.Log.{digits, lnSaid};
 
 // 24 binary digits of the logarithm of y / 2^31 to the base 2, by squaring.
 pub(crate) fn log_digits(y: u64) -> u64
@@ -16,34 +16,23 @@ pub(crate) fn log_digits(y: u64) -> u64
     let mut i: u32 = 0;
     while i < 24 {
         let s = (y * y) >> 31;
-        if s >= 0x1_0000_0000 {
-            y = s >> 1;
-            t = 2 * t + 1;
-        } else {
-            y = s;
-            t = 2 * t;
-        }
+        // 1 where s is at least 2^32
+        let bit = s >> 32;
+        y = s >> bit;
+        t = 2 * t + bit;
         i += 1;
     }
     t
 }
 
-// The natural logarithm of v.
-pub fn ln(v: f32) -> Out32
-    ensures { λ r. ⌜ r ≡ ln v ⌝ }
+// The natural logarithm of v, refused by 10.
+pub fn ln(v: f32) -> Answer32
+    ensures { λ r. ⌜ said32 r ≡ lnSaid v ⌝ }
 {
     if 0.0 < v {
         if v < f32::from_bits(0x7f80_0000) {
-            let p = take_apart(v as f64);
-            let t = log_digits(p.sig >> 21);
-            // E + 1075 places, and 1075
-            let hi = (((p.j as u64) + 53) << 24) + t;
-            let lo = 1075u64 << 24;
-            if lo <= hi {
-                return Out32::Is(ratio32(false, (hi - lo) * 2977044472, 56));
-            }
-            return Out32::Is(ratio32(true, (lo - hi) * 2977044472, 56));
+            return Answer32::Is(ln_of(v));
         }
     }
-    Out32::Refused(10)
+    Answer32::Refused(10)
 }

@@ -1,14 +1,20 @@
 // IEEE's square root of an f32 and of an f64, over whole numbers (document 01, "Root, rounding, logarithm").
-use crate::Out32;
-use crate::Out64;
+use crate::Answer32;
+use crate::Answer64;
+use crate::inner::root32;
+use crate::inner::root64;
 use crate::rounding::nearest32;
 use crate::rounding::nearest64;
 use crate::rounding::take_apart;
 ghost use mathlib.Core.Path.{_≡_};
 ghost use mathlib.Core.Bool.{cond};
 ghost use Prim.Native.Nat.{ℕ, _^_, _<_, _≤_};
-ghost use Rattle.numbers.specs.Root.{Extracted, Rooted, sqrt32Of, sqrt64Of};
-ghost use lib.Dec.{eqb};
+ghost use lib.Dec.{T, eqb};
+ghost use lib.Ieee.{binary32, binary64};
+ghost use lib.Ieee.Positive.{positive};
+ghost use Rattle.numbers.specs.Answers.{said32, said64};
+ghost use Rattle.numbers.specs.Parts.{Extracted, Rooted};
+ghost use Rattle.numbers.specs.Root.{sqrtOf, sqrtSaid};
 
 // A root's leading digits and what is left below them.
 pub struct Extract {
@@ -67,36 +73,46 @@ pub(crate) fn root_of(sig: u64, j: u16) -> Root
     Root { w, j: half as u16 }
 }
 
-// The square root of v, rounded to the nearest f32.
-pub fn sqrt32(v: f32) -> Out32
-    ensures { λ r. ⌜ r ≡ sqrt32Of v ⌝ }
+// The root of a v that is finite and above zero, rounded to the nearest f32.
+pub(crate) fn positive_root32(v: f32) -> f32
+    requires { ⌜ T (positive v) ⌝ }
+    ensures { λ r. ⌜ r ≡ sqrtOf binary32 v ⌝ }
 {
-    if v < f32::from_bits(0x7f80_0000) {
-        if 0.0 < v {
-            let p = take_apart(v as f64);
-            let r = root_of(p.sig, p.j);
-            return Out32::Is(nearest32(false, r.w, r.j));
-        }
-        if v == 0.0 {
-            return Out32::Is(v);
-        }
-    }
-    Out32::Refused(11)
+    let p = take_apart(v as f64);
+    let r = root_of(p.sig, p.j);
+    nearest32(false, r.w, r.j)
 }
 
-// The square root of v, rounded to the nearest f64.
-pub fn sqrt64(v: f64) -> Out64
-    ensures { λ r. ⌜ r ≡ sqrt64Of v ⌝ }
+// The root of a v that is finite and above zero, rounded to the nearest f64.
+pub(crate) fn positive_root64(v: f64) -> f64
+    requires { ⌜ T (positive v) ⌝ }
+    ensures { λ r. ⌜ r ≡ sqrtOf binary64 v ⌝ }
 {
-    if v < f64::from_bits(0x7ff0_0000_0000_0000) {
-        if 0.0 < v {
-            let p = take_apart(v);
-            let r = root_of(p.sig, p.j);
-            return Out64::Is(nearest64(false, r.w, r.j));
-        }
-        if v == 0.0 {
-            return Out64::Is(v);
+    let p = take_apart(v);
+    let r = root_of(p.sig, p.j);
+    nearest64(false, r.w, r.j)
+}
+
+// The square root of v, refused by 11.
+pub fn sqrt32(v: f32) -> Answer32
+    ensures { λ r. ⌜ said32 r ≡ sqrtSaid binary32 v ⌝ }
+{
+    if 0.0 <= v {
+        if v < f32::from_bits(0x7f80_0000) {
+            return Answer32::Is(root32(v));
         }
     }
-    Out64::Refused(11)
+    Answer32::Refused(11)
+}
+
+// The square root of v, refused by 11.
+pub fn sqrt64(v: f64) -> Answer64
+    ensures { λ r. ⌜ said64 r ≡ sqrtSaid binary64 v ⌝ }
+{
+    if 0.0 <= v {
+        if v < f64::from_bits(0x7ff0_0000_0000_0000) {
+            return Answer64::Is(root64(v));
+        }
+    }
+    Answer64::Refused(11)
 }

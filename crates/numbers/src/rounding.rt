@@ -7,13 +7,21 @@ ghost use lib.Ieee.{round, units, binary32, binary64};
 ghost use lib.Ieee.Nearest.{closest};
 ghost use lib.Ieee.Scale.{finite};
 ghost use lib.Dec.{T};
-ghost use Rattle.numbers.specs.Values.{narrow, Parted};
+ghost use Rattle.numbers.specs.Parts.{Parted};
+ghost use Rattle.numbers.specs.Values.{narrow};
 
 // a - b, and 0 where b is the larger.
 pub(crate) fn less(a: u32, b: u32) -> u32
     ensures { λ r. ⌜ r ≡ a - b ⌝ }
 {
     if b <= a { a - b } else { 0 }
+}
+
+// m / 2^64 to the nearest whole number, a tie to the even one.
+fn far_rounded(m: u64) -> u64
+    ensures { λ r. ⌜ r ≡ closest m (2 ^ 64) ⌝ }
+{
+    if 0x8000_0000_0000_0000 < m { 1 } else { 0 }
 }
 
 // m / 2^sh to the nearest whole number, a tie to the even one.
@@ -26,15 +34,14 @@ pub(crate) fn rounded(m: u64, sh: u32) -> u64
     if sh > 64 {
         return 0;
     }
-    // the quotient, and below it the digit that stands for a half
-    let h = m >> (sh - 1);
-    let q = h / 2;
-    if h % 2 == 0 {
-        return q;
+    if sh == 64 {
+        return far_rounded(m);
     }
-    // is anything left below the half?
-    let whole = h << (sh - 1);
-    if whole == m { q + q % 2 } else { q + 1 }
+    // the quotient, what is left below it, and the half
+    let q = m >> sh;
+    let rest = m - (q << sh);
+    let half = 1u64 << (sh - 1);
+    if half < rest + q % 2 { q + 1 } else { q }
 }
 
 // The sign's bit of an f32.
@@ -128,12 +135,23 @@ pub(crate) fn take_apart(v: f64) -> Parts
     }
 }
 
+// The same for an m of 53 digits and a normal f32, which drops 29 of them.
+fn normal32(neg: bool, m: u64, j: u16) -> f32
+    requires { ⌜ (2 ^ 52 ≤ m) × (m < 2 ^ 53) × (896 < j) ⌝ }
+    ensures { λ r. ⌜ r ≡ round binary32 neg (m * 2 ^ j) (2 ^ 1074) ⌝ }
+{
+    pack32(neg, rounded(m, 29), (j - 896) as u32)
+}
+
 // The f32 nearest to v, a tie to the even one. A NaN gives a NaN, and an infinity the infinity.
 pub fn narrow(v: f64) -> f32
     ensures { λ r. ⌜ r ≡ narrow v ⌝ }
 {
     if finite64(v) {
         let p = take_apart(v);
+        if 896 < p.j {
+            return normal32(p.neg, p.sig, p.j);
+        }
         return nearest32(p.neg, p.sig, p.j);
     }
     if v != v {

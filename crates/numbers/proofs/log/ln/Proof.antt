@@ -1,111 +1,30 @@
--- `numbers::log::ln` meets its contract: `proofs/LnLaws.antt` has what each step gives. Assumes nothing.
-use mathlib.Core.Path.{_≡_, sym, subst}
-use Prim.Native.Nat.{ℕ, _/_, _^_, _≤_, _<_}
-use native.Mathlib.Omega.{arith}
-use borrow.Author.Needs.{needs}
-use lib.Dec.{T}
-use lib.Ieee.{binary32, fits}
-use Rattle.numbers.proofs.LnLaws.{top-number, Plain, plain, plain-finite, plain-widens, not-above, not-below, Logged, logged, over-fits, under-fits, over, under}
+-- `numbers::log::ln` meets its contract. Assumes nothing.
+use Rattle.numbers.proofs.Plain.{top32-is, top32-number, positive-by, low-by, high-by, passed, said-ln, no-said-ln}
+use lib.Ieee.{binary32}
+use mathlib.Core.Path.{_≡_}
+use mathlib.Core.Bool.{true}
+use lib.Ieee.Positive.{positive}
 use Rattle.numbers.proofs.log.ln.Statement.{statement}
 use Rattle.numbers.proofs.log.ln.Tie as tie
-use Rattle.numbers.proofs.log.ln.Reads as reads
-use Rattle.numbers.proofs.log.ln.Lts as lts
-use Rattle.numbers.proofs.log.log_digits.Reads as log-digits-reads
-use Rattle.numbers.proofs.rounding.ratio32.Reads as ratio32-reads
-use Rattle.numbers.proofs.rounding.take_apart.Reads as take-apart-reads
-
-held : (c : tie.Start) → T (fits binary32 (c .args .v))
-held c = subst T (sym (c .good .0 .1)) tt
 
 -- past both tests
-passed : (c : tie.Then2) → Plain (c .before .before .args .v)
-passed c = plain (c .before .before .args .v) (c .before .if1 .taken) (c .if2 .taken)
-
-parts : (c : tie.After-take-apart) → Logged (c .before .before .before .before .args .v) (c .take-apart .result .sig) (c .take-apart .result .j)
-parts c = logged (c .before .before .before .before .args .v) (held (c .before .before .before .before)) (passed (c .before .before)) (c .take-apart .result) (c .take-apart .ensures)
+above : (c : tie.Then2) → positive (c .before .before .args .v) ≡ true
+above c = positive-by binary32 (c .before .before .args .v) _ top32-is (c .before .if1 .taken) (c .if2 .taken)
 
 float-from-bits-if2 : tie.Need-float-from-bits-if2
-float-from-bits-if2 c = top-number
+float-from-bits-if2 c = top32-number
 
-float-to-float-take-apart : tie.Need-float-to-float-take-apart
-float-to-float-take-apart c = plain-widens (c .before .before .before .args .v) (held (c .before .before .before)) (passed (c .before))
-
-take-apart-requires : tie.Need-take-apart-requires
-take-apart-requires c κs = plain-finite (c .before .before .before .args .v) (passed (c .before))
-
-log-digits-requires : tie.Need-log-digits-requires
-log-digits-requires c κs = go (c .before .take-apart .result .sig) (parts (c .before) .full) (parts (c .before) .small)
-  where
-    go : (s : ℕ) → 2 ^ 52 ≤ s → s < 2 ^ 53 → (2 ^ 31 ≤ s / 2 ^ 21) × (s / 2 ^ 21 < 2 ^ 32)
-    go s a b = (omega arith, omega arith)
-
-cast-hi : tie.Need-cast-hi
-cast-hi c = search needs
-
-add-hi : tie.Need-add-hi
-add-hi c = search needs
-
-add-hi-2 : tie.Need-add-hi-2
-add-hi-2 c = search needs
-
-mul-ratio32 : tie.Need-mul-ratio32
-mul-ratio32 c =
-    let l = c .before .before in
-    let a = l .before .before in
-    record { fits = over-fits _ _ _ (l .log-digits .result) (parts a) (l .log-digits .ensures .1) (l .log-digits .ensures .0) }
-
-ratio32-requires : tie.Need-ratio32-requires
-ratio32-requires c κs = search needs
+ln-of-requires : tie.Need-ln-of-requires
+ln-of-requires c κs = passed (c .before .before .args .v) (above c)
 
 returns : tie.Need-returns
-returns c =
-    let b = c .before in
-    let l = b .before .before in
-    let a = l .before .before in
-    over _ _ _ (l .log-digits .result) (parts a) (l .log-digits .ensures .1) (l .log-digits .ensures .0) (c .ratio32 .result) (b .if3 .taken) (c .ratio32 .ensures)
-
-sub-ratio32 : tie.Need-sub-ratio32
-sub-ratio32 c = search needs
-
-mul-ratio32-2 : tie.Need-mul-ratio32-2
-mul-ratio32-2 c =
-    let l = c .before .before in
-    let a = l .before .before in
-    record { fits = under-fits _ _ _ (l .log-digits .result) (parts a) (l .log-digits .ensures .1) (l .log-digits .ensures .0) }
-
-ratio32-requires-2 : tie.Need-ratio32-requires-2
-ratio32-requires-2 c κs = search needs
+returns c = said-ln (c .before .before .before .args .v) (c .ln-of .result) (above (c .before)) (c .ln-of .ensures)
 
 returns-2 : tie.Need-returns-2
-returns-2 c =
-    let b = c .before in
-    let l = b .before .before in
-    let a = l .before .before in
-    under _ _ _ (l .log-digits .result) (parts a) (l .log-digits .ensures .1) (l .log-digits .ensures .0) (c .ratio322 .result) (b .if3 .left) (c .ratio322 .ensures)
+returns-2 c = no-said-ln (c .before .before .args .v) (high-by binary32 (c .before .before .args .v) _ top32-is (c .if2 .left))
 
 returns-3 : tie.Need-returns-3
-returns-3 c = not-below (c .before .before .args .v) (c .if2 .left)
-
-returns-4 : tie.Need-returns-4
-returns-4 c = not-above (c .before .args .v) (c .if1 .left)
+returns-3 c = no-said-ln (c .before .args .v) (low-by binary32 (c .before .args .v) _ top32-is (c .if1 .left))
 
 pub ln-spec : {M : Type 1} → statement M
-ln-spec =
-    tie.close
-    (tie.spec
-    float-from-bits-if2
-    float-to-float-take-apart
-    take-apart-requires
-    log-digits-requires
-    cast-hi
-    add-hi
-    add-hi-2
-    mul-ratio32
-    ratio32-requires
-    returns
-    sub-ratio32
-    mul-ratio32-2
-    ratio32-requires-2
-    returns-2
-    returns-3
-    returns-4)
+ln-spec = tie.close (tie.spec float-from-bits-if2 ln-of-requires returns returns-2 returns-3)

@@ -62,7 +62,7 @@ module _ (m left q rest i : ℕ) (g : Good m left q rest i) (h : i < 56) where
     go (left / 2 ^ 62) l ∙ sym next-is,
     left-is,
     fits (left / 2 ^ 62) left-le (g .3) l,
-    more q i (g .4),
+    more q 1 i (lit≤ tt) (g .4),
   )
     where
       go : (d : ℕ) → 4 * q + 1 ≤ 4 * rest + d → (2 * q + 1) * (2 * q + 1) + (4 * rest + d - (4 * q + 1)) ≡ 4 * (q * q + rest) + d
@@ -77,7 +77,7 @@ module _ (m left q rest i : ℕ) (g : Good m left q rest i) (h : i < 56) where
     go (left / 2 ^ 62) ∙ sym next-is,
     left-is,
     fits (left / 2 ^ 62) l,
-    less (2 ^ (i + 1)) (more q i (g .4)),
+    less (2 ^ (i + 1)) (more q 1 i (lit≤ tt) (g .4)),
   )
     where
       go : (d : ℕ) → 2 * q * (2 * q) + (4 * rest + d) ≡ 4 * (q * q + rest) + d

@@ -1,0 +1,35 @@
+-- What the parts of the code promise each other; no public contract needs them. Definitions only.
+use mathlib.Core.Logic.{_⊎_}
+use mathlib.Core.Path.{_≡_}
+use mathlib.Core.Bool.{cond}
+use Prim.Native.Nat.{ℕ, _+_, _*_, _^_, _≤_, _<_}
+use lib.Dec.{eqb}
+use lib.Ieee.{Float}
+use lib.Ieee.Exact.{HasValue}
+use Rattle.numbers.specs.declared.rounding.Parts.{Parts}
+use Rattle.numbers.specs.declared.root.Extract.{Extract}
+
+-- v is sig * 2 ^ j / 2 ^ 1074, negative where neg is true; sig has 53 digits, or fewer where j is 0
+pub record Parted (v : Float) (p : Parts) : Type 0 where
+  pub value : HasValue v (p .neg) (p .sig * 2 ^ p .j) (2 ^ 1074)
+  pub small : p .sig < 2 ^ 53
+  pub near : p .j < 2046
+  pub lead : (p .j ≡ 0) ⊎ (2 ^ 52 ≤ p .sig)
+
+-- q is the whole part of the root of m * 2 ^ 48
+pub record Extracted (m : ℕ) (r : Extract) : Type 0 where
+  pub split : r .q * r .q + r .rest ≡ m * 2 ^ 48
+  pub rests : r .rest ≤ 2 * r .q
+  pub small : r .q < 2 ^ 56
+
+-- w is twice the whole part q of the root of sig * 2 ^ sh * 2 ^ 48, and one more where that root is not whole
+pub record Rooted (sig j w k : ℕ) : Type 0 where
+  pub sh : ℕ
+  pub q : ℕ
+  pub rest : ℕ
+  pub split : q * q + rest ≡ sig * 2 ^ sh * 2 ^ 48
+  pub rests : rest ≤ 2 * q
+  pub large : 2 ^ 62 ≤ sig * 2 ^ sh
+  pub small : sig * 2 ^ sh < 2 ^ 64
+  pub even : sh + 2 * k ≡ j + 1024
+  pub is : w ≡ 2 * q + cond (eqb rest 0) 0 1

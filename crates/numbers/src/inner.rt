@@ -1,0 +1,60 @@
+// The logarithm and the roots as the layers above call them, which know what they hand in.
+use crate::log::log_digits;
+use crate::root::positive_root32;
+use crate::root::positive_root64;
+use crate::rounding::ratio32;
+use crate::rounding::take_apart;
+ghost use mathlib.Core.Path.{_≡_};
+ghost use lib.Dec.{T};
+ghost use lib.Ieee.{binary32, binary64};
+ghost use lib.Ieee.Positive.{positive};
+ghost use Rattle.numbers.specs.Log.{lnOf};
+ghost use Rattle.numbers.specs.Root.{sqrtOf};
+
+// The natural logarithm of a v that is finite and above zero.
+pub fn ln_of(v: f32) -> f32
+    requires { ⌜ T (positive v) ⌝ }
+    ensures { λ r. ⌜ r ≡ lnOf v ⌝ }
+{
+    let p = take_apart(v as f64);
+    let t = log_digits(p.sig >> 21);
+    // E + 1075 places, and 1075
+    let hi = (((p.j as u64) + 53) << 24) + t;
+    let lo = 1075u64 << 24;
+    if lo <= hi {
+        return ratio32(false, (hi - lo) * 2977044472, 56);
+    }
+    ratio32(true, (lo - hi) * 2977044472, 56)
+}
+
+// The root of an f32 as Rust's `sqrt` has it on every value: NaN has none, nor what is below zero.
+pub fn root32(v: f32) -> f32
+    ensures { λ r. ⌜ r ≡ sqrtOf binary32 v ⌝ }
+{
+    if 0.0 < v {
+        if v < f32::from_bits(0x7f80_0000) {
+            return positive_root32(v);
+        }
+        return v;
+    }
+    if v == 0.0 {
+        return v;
+    }
+    0.0 / 0.0
+}
+
+// The root of an f64 as Rust's `sqrt` has it on every value.
+pub fn root64(v: f64) -> f64
+    ensures { λ r. ⌜ r ≡ sqrtOf binary64 v ⌝ }
+{
+    if 0.0 < v {
+        if v < f64::from_bits(0x7ff0_0000_0000_0000) {
+            return positive_root64(v);
+        }
+        return v;
+    }
+    if v == 0.0 {
+        return v;
+    }
+    0.0 / 0.0
+}
