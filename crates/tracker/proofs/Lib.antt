@@ -2,3 +2,4 @@ pub mod Examples
 pub mod Sorting
 pub mod Summing
 pub mod Cutting
+pub mod Starting

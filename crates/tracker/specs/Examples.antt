@@ -4,8 +4,8 @@ use mathlib.Core.List.{List, [], _∷_}
 use Prim.Native.Nat.{ℕ}
 use lib.IntN.{pos}
 use lib.Ieee.{Float, binary32, ofInt, ofBits}
-use Rattle.numbers.specs.Log.{ln}
-use Rattle.numbers.specs.declared.Out32.the-variants.{Is}
+use Rattle.numbers.specs.Log.{lnSaid}
+use Rattle.numbers.specs.Answers.{value}
 use Rattle.ranges.specs.Settings.{standard}
 use Rattle.tracker.specs.Model.{Tracker}
 use Rattle.tracker.specs.Steps.{fresh, onMark}
@@ -26,7 +26,7 @@ pub data Example : Type 0 where
 
 abbrev pub Holds : Example → Type 0
 Holds (tracked marks dit dah) = (fed fresh marks .pair .lo ≡ whole dit) × (fed fresh marks .pair .hi ≡ whole dah)
-Holds (logged v r) = ln (ofBits binary32 v) ≡ Is (ofBits binary32 r)
+Holds (logged v r) = lnSaid (ofBits binary32 v) ≡ value (ofBits binary32 r)
 
 unfoldable pub AllHold : List Example → Type 0
 AllHold [] = Unit {0}

@@ -1,4 +1,3 @@
-pub mod Standins
 pub mod Constants
 pub mod Model
 pub mod Lock

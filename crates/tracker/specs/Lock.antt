@@ -12,7 +12,7 @@ use Rattle.ranges.specs.Interval.{within}
 use Rattle.ranges.specs.Clamp.{clamp}
 use Rattle.ranges.specs.Average.{average}
 use Rattle.ranges.specs.Mean.{meanOf}
-use Rattle.tracker.specs.Standins.{sqrtOf}
+use Rattle.numbers.specs.Root.{sqrtOf}
 use Rattle.tracker.specs.Constants.{two, three}
 use Rattle.tracker.specs.Model.{Pair, withInit, withCentroids, withConfirmed}
 

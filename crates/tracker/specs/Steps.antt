@@ -13,7 +13,8 @@ use Rattle.ranges.specs.Interval.{within}
 use Rattle.ranges.specs.Clamp.{clamp}
 use Rattle.ranges.specs.Average.{average}
 use Rattle.ranges.specs.Mean.{mean64, varianceAbout}
-use Rattle.tracker.specs.Standins.{sqrtOf, absOf}
+use Rattle.numbers.specs.Root.{sqrtOf}
+use Rattle.numbers.specs.Order.{abs}
 use Rattle.tracker.specs.Constants.{one, two, three, dahGapFrac, cvMax, offFrac}
 use Rattle.tracker.specs.declared.RingEntry.{RingEntry}
 use Rattle.tracker.specs.Model.{Pair, Tracker, withCentroids, withConfirmed, withPlaceholder, withPair, withRing, withWpm, withRecent, withEgap, withHint, withRegime, withRecovered, withUncorroborated, pushed}
@@ -90,7 +91,7 @@ deviation m l = div binary64 (sqrtOf binary64 (varianceAbout m l)) m
 
 -- how far a mean lies off a centroid, as a part of the centroid, in f64: "offset"
 abbrev pub offset : Float → Float → Float
-offset m c = div binary64 (absOf (sub binary64 m c)) c
+offset m c = div binary64 (abs (sub binary64 m c)) c
 
 -- "the first entry's pre-mark centroid", that of the ring's class
 unfoldable pub anchor : List RingEntry → Float

@@ -1,5 +1,5 @@
 // Sums of up to twelve marks in f64, one rounding for each operation (the Rust's `mean`, and the sums of `check_drift`).
-use crate::inner::roots::root64;
+use numbers::inner::root64;
 use numbers::rounding::narrow;
 ghost use mathlib.Core.Path.{_≡_};
 ghost use Prim.Native.Nat.{_<_, _≤_};

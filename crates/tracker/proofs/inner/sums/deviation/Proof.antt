@@ -5,7 +5,6 @@ use Rattle.tracker.proofs.inner.sums.deviation.Statement.{statement}
 use Rattle.tracker.proofs.inner.sums.deviation.Tie as tie
 use Rattle.tracker.proofs.inner.sums.deviation.Reads as reads
 use Rattle.tracker.proofs.inner.sums.deviation.Lts as lts
-use Rattle.tracker.proofs.inner.roots.root64.Reads as root64-reads
 use Rattle.tracker.proofs.inner.sums.squares.Reads as squares-reads
 
 -- src/inner/sums.rt:71:12
