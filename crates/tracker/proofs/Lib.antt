@@ -3,3 +3,4 @@ pub mod Sorting
 pub mod Summing
 pub mod Cutting
 pub mod Starting
+pub mod Shifting

@@ -1,10 +1,12 @@
 -- What the parts of the code say. Definitions only.
 use mathlib.Core.Path.{_≡_}
 use mathlib.Core.List.{List}
+use Prim.Native.Nat.{_≤_}
 use lib.ListN.{take, drop}
 use lib.Ieee.{Float}
 use Rattle.ranges.specs.Mean.{meanOf}
 use Rattle.tracker.specs.declared.inner.lock.Halves.{Halves}
+use Rattle.tracker.specs.declared.SpeedTracker.{SpeedTracker}
 use Rattle.tracker.specs.Lock.{cut}
 
 -- sorted marks, cut
@@ -12,3 +14,9 @@ pub record Halved (s : List Float) (r : Halves) : Type 0 where
   pub at : r .cut ≡ cut s
   pub low : r .lo ≡ meanOf (take (cut s) s)
   pub high : r .hi ≡ meanOf (drop (cut s) s)
+
+-- counts within their arrays
+pub record Counted (t : SpeedTracker) : Type 0 where
+  pub init : t .pair .«init_len» ≤ 12
+  pub ring : t .«ring_len» ≤ 12
+  pub recent : t .«recent_len» ≤ 5
