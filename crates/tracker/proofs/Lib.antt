@@ -4,3 +4,4 @@ pub mod Summing
 pub mod Cutting
 pub mod Starting
 pub mod Shifting
+pub mod Ringing

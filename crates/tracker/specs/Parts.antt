@@ -3,11 +3,14 @@ use mathlib.Core.Path.{_≡_}
 use mathlib.Core.List.{List}
 use Prim.Native.Nat.{_≤_}
 use lib.ListN.{take, drop}
+use lib.Dec.{T}
 use lib.Ieee.{Float}
+use Rattle.ranges.specs.Settings.{standard}
 use Rattle.ranges.specs.Mean.{meanOf}
 use Rattle.tracker.specs.declared.inner.lock.Halves.{Halves}
 use Rattle.tracker.specs.declared.SpeedTracker.{SpeedTracker}
 use Rattle.tracker.specs.Lock.{cut}
+use Rattle.tracker.specs.Sound.{ringSound, allDurations}
 
 -- sorted marks, cut
 pub record Halved (s : List Float) (r : Halves) : Type 0 where
@@ -20,3 +23,15 @@ pub record Counted (t : SpeedTracker) : Type 0 where
   pub init : t .pair .«init_len» ≤ 12
   pub ring : t .«ring_len» ≤ 12
   pub recent : t .«recent_len» ≤ 5
+
+-- a full ring, whose marks and centroids are sound
+pub record Full (t : SpeedTracker) : Type 0 where
+  pub count : t .«ring_len» ≡ 12
+  pub ring : T (ringSound standard (t .ring))
+
+-- what a check for drift asks: a sound ring and sound recent marks, of which there is one
+pub record Checkable (t : SpeedTracker) : Type 0 where
+  pub counted : Counted t
+  pub ring : T (ringSound standard (take (t .«ring_len») (t .ring)))
+  pub recent : T (allDurations (take (t .«recent_len») (t .recent)))
+  pub some : 1 ≤ t .«recent_len»

@@ -72,18 +72,19 @@ bound k t = withPair t (constrained k (t .hint) (t .pair))
 abbrev pub durations : List RingEntry → List Float
 durations l = map (λ (e : RingEntry). e .«dur_ms») l
 
--- every mark of the ring was classed a dit, or every one a dah
-unfoldable pub allDit : List RingEntry → Bool
-allDit [] = true
-allDit (e ∷ es) = e .«assigned_dit» && allDit es
+-- a mark was classed a dit (true) or a dah (false)
+abbrev pub classed : Bool → RingEntry → Bool
+classed true e = e .«assigned_dit»
+classed false e = not (e .«assigned_dit»)
 
-unfoldable pub allDah : List RingEntry → Bool
-allDah [] = true
-allDah (e ∷ es) = not (e .«assigned_dit») && allDah es
+-- every mark of the ring was
+unfoldable pub allClassed : Bool → List RingEntry → Bool
+allClassed b [] = true
+allClassed b (e ∷ es) = classed b e && allClassed b es
 
 -- "12 same-class marks"
 abbrev pub uniform : List RingEntry → Bool
-uniform l = leb 12 (length l) && (allDit l || allDah l)
+uniform l = leb 12 (length l) && (allClassed true l || allClassed false l)
 
 -- standard deviation over mean, of marks (or gaps) and their mean, in f64: "cv"
 abbrev pub deviation : Float → List Float → Float
@@ -96,7 +97,7 @@ offset m c = div binary64 (abs (sub binary64 m c)) c
 -- "the first entry's pre-mark centroid", that of the ring's class
 unfoldable pub anchor : List RingEntry → Float
 anchor [] = nan
-anchor (e ∷ es) = cond (allDit (e ∷ es)) (e .«pre_lo») (e .«pre_hi»)
+anchor (e ∷ es) = cond (allClassed true (e ∷ es)) (e .«pre_lo») (e .«pre_hi»)
 
 -- "cv below 0.35, offset above 0.40", for the mean m of the ring
 abbrev pub strays : Float → List RingEntry → Bool
@@ -122,7 +123,7 @@ gapSaysDahs (some g) l = lt g (mul binary32 dahGapFrac (getD (sorted (durations 
 
 -- "twelve dahs, the dit resting on the lone start mark .. or on a seed, with no dit since, and no gap centroid .."
 abbrev pub fragment : Tracker → Bool
-fragment t = allDah (t .ring) && (t .uncorroborated && not (gapSaysDahs (t .egap) (t .ring)))
+fragment t = allClassed false (t .ring) && (t .uncorroborated && not (gapSaysDahs (t .egap) (t .ring)))
 
 -- recovery reads all of the ring, and begins the speed average anew
 abbrev pub recoveredBy : Settings → Tracker → Tracker
