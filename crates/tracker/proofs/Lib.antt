@@ -5,3 +5,4 @@ pub mod Cutting
 pub mod Starting
 pub mod Shifting
 pub mod Ringing
+pub mod Relocking

@@ -1,0 +1,73 @@
+-- A check for drift, by its tests. Assumes nothing.
+use mathlib.Core.Path.{_≡_, refl, ap, sym, _∙_, subst}
+use mathlib.Core.Bool.{Bool, true, false, not, cond, _&&_, _||_}
+use mathlib.Core.List.{List, [], _∷_, _++_}
+use Prim.Native.Nat.{ℕ, _+_, _≤_, _<_}
+use native.Mathlib.Nat.{le-antisymm}
+use native.Mathlib.Omega.{arith}
+use lib.Dec.{T, leb, leb→le}
+use lib.ListN.{length, take, getD, length-map}
+use lib.Seq.{length-take-le, take-take, take-all}
+use lib.Ieee.{Float}
+use Rattle.ranges.specs.Settings.{Settings, standard}
+use Rattle.ranges.specs.Limits.{durationMin, durationMax}
+use Rattle.ranges.specs.Interval.{AllIn}
+use Rattle.ranges.proofs.Compare.{passed}
+use Rattle.tracker.specs.declared.RingEntry.{RingEntry}
+use Rattle.tracker.specs.declared.SpeedTracker.{SpeedTracker}
+use Rattle.tracker.specs.Model.{Tracker, view}
+use Rattle.tracker.specs.Parts.{Counted, Full, Checkable}
+use Rattle.tracker.specs.Sound.{ringSound}
+use Rattle.tracker.specs.Steps.{durations, allClassed, uniform, drifts, fragment, drifted, recoveredBy, relocked, checked}
+use Rattle.tracker.proofs.Ringing.{both, whole}
+
+pub full-count : (l : List RingEntry) (n : ℕ) → length l ≡ 12 → n ≤ 12 → uniform (take n l) ≡ true → n ≡ 12
+full-count l n h k e =
+    let p = both (leb 12 (length (take n l))) (allClassed true (take n l) || allClassed false (take n l)) (passed e) in
+    let q = leb→le 12 (length (take n l)) (p .0) in
+    let w = length-take-le n l (omega arith) in
+    omega arith
+
+pub full-of : (t : SpeedTracker) → length (t .ring) ≡ 12 → Checkable t → uniform (view t .ring) ≡ true → Full t
+full-of t h v e =
+    let n = full-count (t .ring) (t .«ring_len») h (v .counted .ring) e in
+    record { count = n; ring = subst (λ (l : List RingEntry). T (ringSound standard l)) (whole (t .ring) (t .«ring_len») h n) (v .ring) }
+
+module _ (k : Settings) (m : Tracker) where
+  pub checked-drifts : uniform (m .ring) ≡ true → drifts (m .ring) ≡ true → drifted k m ≡ checked k m
+  unfolding checked
+  checked-drifts u d = rw (u, d)
+
+  pub checked-recovers : uniform (m .ring) ≡ true → drifts (m .ring) ≡ false → fragment m ≡ true → recoveredBy k m ≡ checked k m
+  unfolding checked
+  checked-recovers u d f = rw (u, d, f)
+
+  pub checked-stays : uniform (m .ring) ≡ true → drifts (m .ring) ≡ false → fragment m ≡ false → m ≡ checked k m
+  unfolding checked
+  checked-stays u d f = rw (u, d, f)
+
+  pub checked-mixed : uniform (m .ring) ≡ false → m ≡ checked k m
+  unfolding checked
+  checked-mixed u = rw u
+
+-- five places by name
+pub five-of : (l : List Float) (z : Float) → length l ≡ 5 → getD l 0 z ∷ getD l 1 z ∷ getD l 2 z ∷ getD l 3 z ∷ getD l 4 z ∷ [] ≡ l
+five-of (a ∷ b ∷ c ∷ x ∷ y ∷ []) z h = refl
+five-of [] z h = absurd (omega arith)
+five-of (a ∷ []) z h = absurd (omega arith)
+five-of (a ∷ b ∷ []) z h = absurd (omega arith)
+five-of (a ∷ b ∷ c ∷ []) z h = absurd (omega arith)
+five-of (a ∷ b ∷ c ∷ x ∷ []) z h = absurd (omega arith)
+five-of (a ∷ b ∷ c ∷ x ∷ y ∷ w ∷ r) z h = absurd (omega arith)
+
+-- the first n of a wider array
+pub wider : (s l : List Float) (n : ℕ) → take 5 s ≡ l → n ≤ 5 → take n s ≡ take n l
+wider s l n e h = sym (take-take n 5 s h) ∙ ap (take n) e
+
+pub drifts-at : (t : SpeedTracker) (b v : Bool) → length (t .ring) ≡ 12 → Full t → b ≡ drifts (t .ring) → b ≡ v → drifts (view t .ring) ≡ v
+drifts-at t b v h f e q = ap drifts (whole (t .ring) (t .«ring_len») h (f .count)) ∙ sym e ∙ q
+
+pub ring-marks : (l : List RingEntry) (d : List Float) (n : ℕ) → length l ≡ 12 → n ≡ 12 → d ≡ durations l → take 12 d ≡ durations (take n l)
+ring-marks l d n h e q =
+    let g : length (durations l) ≡ 12 = length-map l (λ (e : RingEntry). e .«dur_ms») ∙ h in
+    ap (take 12) q ∙ take-all 12 (durations l) (omega arith) ∙ ap durations (sym (whole l n h e))

@@ -1,0 +1,1 @@
+// One mark (the Rust's `on_mark`).
