@@ -9,10 +9,10 @@ use Rattle.numbers.specs.Values.{narrow}
 use Rattle.numbers.specs.Log.{lnSaid, lnOf, digits}
 use Rattle.ranges.specs.Mean.{sumFrom, squaresFrom}
 use Rattle.ranges.specs.Settings.{standard}
-use Rattle.tracker.specs.Model.{Pair}
+use Rattle.tracker.specs.Model.{Pair, all}
 use Rattle.numbers.specs.Root.{sqrtOf}
 use Rattle.tracker.specs.Lock.{insert, insertAll, ratios, firstLargest, locked, constrained, learnt, started}
-use Rattle.tracker.specs.Steps.{fresh, onMark, allClassed, anchor, checked}
+use Rattle.tracker.specs.Steps.{fresh, onMark, anchor, checked}
 use Rattle.tracker.specs.Examples.{whole, fed, AllHold, settled}
 
 -- the mark that equals the boundary: what a pair learns from it
@@ -24,14 +24,14 @@ unfolding learnt sqrtOf rootOf floorRoot rootIn size round ofBits add sub mul lt
 equal-mark = refl
 
 last-hi : fed fresh (50 ∷ 50 ∷ 200 ∷ 200 ∷ 200 ∷ 100 ∷ []) .pair .hi ≡ whole 185
-unfolding AllHold fed onMark checked allClassed anchor insert insertAll ratios firstLargest locked constrained started narrow lnSaid lnOf digits size round sumFrom squaresFrom ofInt toBits ofBits add sub mul div neg lt le
+unfolding AllHold fed onMark checked all anchor insert insertAll ratios firstLargest locked constrained started narrow lnSaid lnOf digits size round sumFrom squaresFrom ofInt toBits ofBits add sub mul div neg lt le
 last-hi = rw equal-mark
 
 last-lo : fed fresh (50 ∷ 50 ∷ 200 ∷ 200 ∷ 200 ∷ 100 ∷ []) .pair .lo ≡ whole 50
-unfolding AllHold fed onMark checked allClassed anchor insert insertAll ratios firstLargest locked constrained started narrow lnSaid lnOf digits size round sumFrom squaresFrom ofInt toBits ofBits add sub mul div neg lt le
+unfolding AllHold fed onMark checked all anchor insert insertAll ratios firstLargest locked constrained started narrow lnSaid lnOf digits size round sumFrom squaresFrom ofInt toBits ofBits add sub mul div neg lt le
 last-lo = rw equal-mark
 
 pub examples : AllHold settled
-unfolding AllHold fed onMark checked allClassed anchor insert insertAll ratios firstLargest locked constrained started narrow lnSaid lnOf digits size round sumFrom squaresFrom ofInt toBits ofBits add sub mul div neg lt le learnt
+unfolding AllHold fed onMark checked all anchor insert insertAll ratios firstLargest locked constrained started narrow lnSaid lnOf digits size round sumFrom squaresFrom ofInt toBits ofBits add sub mul div neg lt le learnt
 examples =
     ((refl, refl), ((refl, refl), ((refl, refl), ((refl, refl), ((refl, refl), ((refl, refl), ((refl, refl), ((refl, refl), ((refl, refl), ((last-lo, last-hi), (refl, (refl, tt))))))))))))

@@ -6,3 +6,4 @@ pub mod Starting
 pub mod Shifting
 pub mod Ringing
 pub mod Relocking
+pub mod Soundness

@@ -2,11 +2,11 @@
 use mathlib.Core.Path.{_≡_, refl, ap, sym, _∙_, subst}
 use mathlib.Core.Bool.{Bool, true, false, not, cond, _&&_, _||_}
 use mathlib.Core.List.{List, [], _∷_, _++_}
-use Prim.Native.Nat.{ℕ, _+_, _≤_, _<_}
+use Prim.Native.Nat.{ℕ, _+_, _≤_, min, _<_}
 use native.Mathlib.Nat.{le-antisymm}
 use native.Mathlib.Omega.{arith}
 use lib.Dec.{T, leb, leb→le}
-use lib.ListN.{length, take, getD, length-map}
+use lib.ListN.{length, take, getD, length-map, length-take}
 use lib.Seq.{length-take-le, take-take, take-all}
 use lib.Ieee.{Float}
 use Rattle.ranges.specs.Settings.{Settings, standard}
@@ -31,7 +31,7 @@ full-count l n h k e =
 pub full-of : (t : SpeedTracker) → length (t .ring) ≡ 12 → Checkable t → uniform (view t .ring) ≡ true → Full t
 full-of t h v e =
     let n = full-count (t .ring) (t .«ring_len») h (v .counted .ring) e in
-    record { count = n; ring = subst (λ (l : List RingEntry). T (ringSound standard l)) (whole (t .ring) (t .«ring_len») h n) (v .ring) }
+    record { count = n; ring = subst (λ (l : List RingEntry). T (ringSound standard l)) (whole (t .ring) (t .«ring_len») h n) (v .drivable .ring) }
 
 module _ (k : Settings) (m : Tracker) where
   pub checked-drifts : uniform (m .ring) ≡ true → drifts (m .ring) ≡ true → drifted k m ≡ checked k m
@@ -71,3 +71,6 @@ pub ring-marks : (l : List RingEntry) (d : List Float) (n : ℕ) → length l �
 ring-marks l d n h e q =
     let g : length (durations l) ≡ 12 = length-map l (λ (e : RingEntry). e .«dur_ms») ∙ h in
     ap (take 12) q ∙ take-all 12 (durations l) (omega arith) ∙ ap durations (sym (whole l n h e))
+
+pub some-count : (l : List Float) (n : ℕ) → 1 ≤ length (take n l) → 1 ≤ n
+some-count l n h = omega (arith, length-take n l)

@@ -23,6 +23,7 @@ use Rattle.ranges.specs.Mean.{mean64}
 use Rattle.tracker.specs.Constants.{cvMax, offFrac, dahGapFrac}
 use Rattle.tracker.specs.Lock.{sorted}
 use Rattle.tracker.specs.Steps.{durations, classed, allClassed, anchor, uniform, deviation, offset, drifts, gapSaysDahs}
+use Rattle.tracker.specs.Model.{all}
 use Rattle.tracker.specs.Sound.{allDurations, duration, centroids, entrySound, ringSound}
 
 -- ---- lengths copied out: the first i are
@@ -66,7 +67,7 @@ pub class-begins : (b : Bool) (l : List RingEntry) → length l ≡ 12 → Class
 class-begins b l h = record { upto = omega arith; long = h; is = refl }
 
 class-next : (b : Bool) (l : List RingEntry) (i : ℕ) (z : RingEntry) (x : Bool) → i < length l → classed b (getD l i z) ≡ x → allClassed b (drop i l) ≡ (x && allClassed b (drop (suc i) l))
-unfolding allClassed
+unfolding all
 class-next b l i z x h e = rw (drop-cons l i z h, e)
 
 pub class-turns : (b : Bool) (l : List RingEntry) (i : ℕ) (z : RingEntry) → i < 12 → Classing b l i → classed b (getD l i z) ≡ true → Classing b l (i + 1)
@@ -76,7 +77,7 @@ pub class-fails : (b : Bool) (l : List RingEntry) (i : ℕ) (z : RingEntry) → 
 class-fails b l i z h v e = let a = v .long in sym (v .is ∙ class-next b l i z false (omega arith) e)
 
 pub class-ends : (b : Bool) (l : List RingEntry) (i : ℕ) → 12 ≤ i → Classing b l i → true ≡ allClassed b l
-unfolding allClassed
+unfolding all
 class-ends b l i h v = let a = v .long in sym (v .is ∙ rw (drop-of-length-le l {i = i} (omega arith)))
 
 -- ---- a ring whose count is 12 is the whole array
@@ -98,13 +99,13 @@ pub inside : (lo hi x : Float) → T (within lo hi x) → In lo hi x
 inside lo hi x t = both (le lo x) (le x hi) t
 
 pub durations-in : (l : List Float) → T (allDurations l) → AllIn durationMin durationMax l
-unfolding allDurations AllIn
+unfolding all AllIn
 durations-in [] t = tt
 durations-in (x ∷ xs) t = let p = both (duration x) (allDurations xs) t in (inside durationMin durationMax x (p .0), durations-in xs (p .1))
 
 module _ (k : Settings) where
   pub ring-in : (l : List RingEntry) → T (ringSound k l) → AllIn durationMin durationMax (durations l)
-  unfolding ringSound AllIn
+  unfolding all AllIn
   ring-in [] t = tt
   ring-in (e ∷ es) t =
       let p = both (entrySound k e) (ringSound k es) t in
@@ -112,7 +113,7 @@ module _ (k : Settings) where
       (inside durationMin durationMax (e .«dur_ms») (q .0), ring-in es (p .1))
 
   pub first-sound : (l : List RingEntry) (z : RingEntry) → 0 < length l → T (ringSound k l) → In (k .ditMin) (k .ditMax) (getD l 0 z .«pre_lo») × In dahMin dahMax (getD l 0 z .«pre_hi»)
-  unfolding ringSound
+  unfolding all
   first-sound [] z h t = absurd (omega arith)
   first-sound (e ∷ es) z h t =
       let p = both (entrySound k e) (ringSound k es) t in

@@ -1,5 +1,5 @@
 -- What a tracker means: lists in place of arrays and counts, and numbers that may be absent. Definitions only.
-use mathlib.Core.Bool.{Bool, true, false, cond}
+use mathlib.Core.Bool.{Bool, true, false, cond, _&&_}
 use mathlib.Core.List.{List, [], _∷_, _++_}
 use mathlib.Core.Option.{Option, none, some}
 use Prim.Native.Nat.{ℕ, _-_}
@@ -231,3 +231,8 @@ withUncorroborated t b = record {
 -- x at the end, and of that the last n: `push_back`, then `pop_front` where there are more than n
 abbrev pub pushed : ℕ → {A : Type 0} → List A → A → List A
 pushed n l x = let m = l ++ (x ∷ []) in drop (length m - n) m
+
+-- a test holds of each
+unfoldable pub all : {A : Type 0} → (A → Bool) → List A → Bool
+all p [] = true
+all p (x ∷ xs) = p x && all p xs

@@ -2,13 +2,14 @@
 use mathlib.Core.Path.{_≡_}
 use mathlib.Core.List.{List}
 use Prim.Native.Nat.{_≤_}
-use lib.ListN.{take, drop}
+use lib.ListN.{length, take, drop}
 use lib.Dec.{T}
 use lib.Ieee.{Float}
 use Rattle.ranges.specs.Settings.{standard}
 use Rattle.ranges.specs.Mean.{meanOf}
 use Rattle.tracker.specs.declared.inner.lock.Halves.{Halves}
 use Rattle.tracker.specs.declared.SpeedTracker.{SpeedTracker}
+use Rattle.tracker.specs.Model.{Tracker, view}
 use Rattle.tracker.specs.Lock.{cut}
 use Rattle.tracker.specs.Sound.{ringSound, allDurations}
 
@@ -30,8 +31,11 @@ pub record Full (t : SpeedTracker) : Type 0 where
   pub ring : T (ringSound standard (t .ring))
 
 -- what a check for drift asks: a sound ring and sound recent marks, of which there is one
+pub record Drivable (m : Tracker) : Type 0 where
+  pub ring : T (ringSound standard (m .ring))
+  pub recent : T (allDurations (m .recent))
+  pub some : 1 ≤ length (m .recent)
+
 pub record Checkable (t : SpeedTracker) : Type 0 where
   pub counted : Counted t
-  pub ring : T (ringSound standard (take (t .«ring_len») (t .ring)))
-  pub recent : T (allDurations (take (t .«recent_len») (t .recent)))
-  pub some : 1 ≤ t .«recent_len»
+  pub drivable : Drivable (view t)

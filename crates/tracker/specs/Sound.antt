@@ -12,15 +12,14 @@ use Rattle.ranges.specs.Limits.{durationMin, durationMax, dahMin, dahMax}
 use Rattle.ranges.specs.Interval.{within}
 use Rattle.tracker.specs.declared.RingEntry.{RingEntry}
 use Rattle.tracker.specs.declared.SpeedTracker.{SpeedTracker}
-use Rattle.tracker.specs.Model.{Pair, Tracker, view}
+use Rattle.tracker.specs.Model.{Pair, Tracker, view, all}
 
 -- "a held duration that 5 to 7 would refuse": from 1/64 to 262144
 abbrev pub duration : Float → Bool
 duration x = within durationMin durationMax x
 
-unfoldable pub allDurations : List Float → Bool
-allDurations [] = true
-allDurations (x ∷ xs) = duration x && allDurations xs
+abbrev pub allDurations : List Float → Bool
+allDurations l = all duration l
 
 -- "dit outside 20 to 150 or dah outside 16 to 2,500"
 abbrev pub centroids : Settings → Float → Float → Bool
@@ -42,9 +41,8 @@ pairSound k p =
 abbrev pub entrySound : Settings → RingEntry → Bool
 entrySound k e = duration (e .«dur_ms») && centroids k (e .«pre_lo») (e .«pre_hi»)
 
-unfoldable pub ringSound : Settings → List RingEntry → Bool
-ringSound k [] = true
-ringSound k (e ∷ es) = entrySound k e && ringSound k es
+abbrev pub ringSound : Settings → List RingEntry → Bool
+ringSound k l = all (entrySound k) l
 
 -- "a gap centroid or speed average held that is not finite and positive"
 abbrev pub positiveOr : Option Float → Bool

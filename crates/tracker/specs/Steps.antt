@@ -17,7 +17,7 @@ use Rattle.numbers.specs.Root.{sqrtOf}
 use Rattle.numbers.specs.Order.{abs}
 use Rattle.tracker.specs.Constants.{one, two, three, dahGapFrac, cvMax, offFrac}
 use Rattle.tracker.specs.declared.RingEntry.{RingEntry}
-use Rattle.tracker.specs.Model.{Pair, Tracker, withCentroids, withConfirmed, withPlaceholder, withPair, withRing, withWpm, withRecent, withEgap, withHint, withRegime, withRecovered, withUncorroborated, pushed}
+use Rattle.tracker.specs.Model.{Pair, Tracker, withCentroids, withConfirmed, withPlaceholder, withPair, withRing, withWpm, withRecent, withEgap, withHint, withRegime, withRecovered, withUncorroborated, pushed, all}
 use Rattle.tracker.specs.Lock.{sorted, initialized, constrained, boundary, observed}
 
 -- a fresh tracker (`new`)
@@ -78,9 +78,8 @@ classed true e = e .«assigned_dit»
 classed false e = not (e .«assigned_dit»)
 
 -- every mark of the ring was
-unfoldable pub allClassed : Bool → List RingEntry → Bool
-allClassed b [] = true
-allClassed b (e ∷ es) = classed b e && allClassed b es
+abbrev pub allClassed : Bool → List RingEntry → Bool
+allClassed b l = all (classed b) l
 
 -- "12 same-class marks"
 abbrev pub uniform : List RingEntry → Bool

@@ -1,5 +1,5 @@
 use Rattle.tracker.proofs.Ringing.{durations-in}
-use Rattle.tracker.proofs.Relocking.{wider}
+use Rattle.tracker.proofs.Relocking.{wider, some-count}
 use Rattle.tracker.specs.Steps.{relocked}
 use Rattle.tracker.specs.Model.{view}
 use Rattle.ranges.specs.Settings.{standard}
@@ -19,7 +19,7 @@ widened-requires c κs = search needs
 
 -- src/inner/relock.rt:52:5
 relock-requires : tie.Need-relock-requires
-relock-requires c κs = let s = c .before .before in let h = s .pre .counted .recent in (s .pre .counted, ((s .pre .some, omega arith), rw (wider _ _ (s .args .t .«recent_len») (c .widened .ensures) h) (durations-in _ (s .pre .recent))))
+relock-requires c κs = let s = c .before .before in let h = s .pre .counted .recent in (s .pre .counted, ((some-count _ _ (s .pre .drivable .some), omega arith), rw (wider _ _ (s .args .t .«recent_len») (c .widened .ensures) h) (durations-in _ (s .pre .drivable .recent))))
 
 -- src/inner/relock.rt:46:1
 returns : tie.Need-returns

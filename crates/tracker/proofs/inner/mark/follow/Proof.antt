@@ -1,0 +1,45 @@
+use borrow.Author.Needs.{needs}
+use Rattle.tracker.proofs.inner.mark.follow.Statement.{statement}
+use Rattle.tracker.proofs.inner.mark.follow.Tie as tie
+use Rattle.tracker.proofs.inner.mark.follow.Reads as reads
+use Rattle.tracker.proofs.inner.mark.follow.Lts as lts
+use Rattle.tracker.proofs.inner.mark.entry.Reads as entry-reads
+use Rattle.tracker.proofs.inner.push.push_ring.Reads as push-ring-reads
+use Rattle.tracker.proofs.inner.relock.check.Reads as check-reads
+use Rattle.tracker.proofs.inner.speed.bound.Reads as bound-reads
+use Rattle.tracker.proofs.inner.speed.spoken.Reads as spoken-reads
+
+-- src/inner/mark.rt:41:9
+bound-requires : tie.Need-bound-requires
+bound-requires c κs = search needs
+
+-- src/inner/mark.rt:43:9
+entry-requires : tie.Need-entry-requires
+entry-requires c κs = search needs
+
+-- src/inner/mark.rt:44:9
+push-ring-requires : tie.Need-push-ring-requires
+push-ring-requires c κs = search needs
+
+-- src/inner/mark.rt:45:9
+check-requires : tie.Need-check-requires
+check-requires c κs = ?
+
+-- src/inner/mark.rt:46:5
+spoken-requires : tie.Need-spoken-requires
+spoken-requires c κs = search needs
+
+-- src/inner/mark.rt:35:1
+returns : tie.Need-returns
+returns c = ?
+
+pub follow-spec : {M : Type 1} → statement M
+follow-spec =
+    tie.close
+    (tie.spec
+    bound-requires
+    entry-requires
+    push-ring-requires
+    check-requires
+    spoken-requires
+    returns)
