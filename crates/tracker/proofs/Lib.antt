@@ -7,3 +7,4 @@ pub mod Shifting
 pub mod Ringing
 pub mod Relocking
 pub mod Soundness
+pub mod Keeping

@@ -163,3 +163,9 @@ module _ (k : Settings) (t : SpeedTracker) where
   -- a tracker whose view a definition gives is sound where that is
   pub sound-by : (m : Tracker) → (view t ≡ m) × Counted t → T (proper k m) → T (sound k t)
   sound-by m e p = sound-of (e .1) (subst (λ (x : Tracker). T (proper k x)) (sym (e .0)) p)
+
+pub pushed-most : {A : Type 0} (n : ℕ) (l : List A) (x : A) → length (pushed n l x) ≤ n
+pushed-most n l x =
+    let m = l ++ (x ∷ []) in
+    let b : length (drop (length m - n) m) ≡ length m - (length m - n) = length-drop (length m - n) m in
+    omega arith
