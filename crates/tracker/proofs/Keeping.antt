@@ -31,7 +31,7 @@ use Rattle.ranges.proofs.Mean.{duration-number, duration-mean-in}
 use Rattle.ranges.proofs.Good as G
 use Rattle.ranges.proofs.Good.{speedLeast, speedMost}
 use Rattle.tracker.specs.declared.RingEntry.{RingEntry}
-use Rattle.tracker.specs.Constants.{three}
+use Rattle.tracker.specs.Constants.{two, three}
 use Rattle.tracker.specs.Model.{Pair, Tracker, withPair, withInit, withRing, withWpm, withRecent, withEgap, withRegime, withRecovered, withUncorroborated, pushed, all}
 use Rattle.tracker.specs.Lock.{sorted, cut, parts, bimodal, asDahs, asDits, unimodal, locked, initialized, ratioOr, mended, constrained, anchorsDit, anchorsDah, moved, learnt, started, observed, boundary}
 use Rattle.tracker.specs.Sound.{duration, allDurations, centroids, plusZero, pairSound, entrySound, ringSound, positiveOr, hintSound, proper}
@@ -151,6 +151,22 @@ in-durations : (l : List Float) → AllIn durationMin durationMax l → T (allDu
 unfolding all AllIn
 in-durations [] m = tt
 in-durations (x ∷ xs) m = join (duration x) (allDurations xs) (outside durationMin durationMax x (m .0)) (in-durations xs (m .1))
+
+three-positive : T (positive three)
+unfolding ofBits
+three-positive = tt
+
+threefold-dah : (x : Float) → In dahMin dahMax x → T (finite (mul binary32 three x))
+unfolding ofBits mul
+threefold-dah x i = in-finite (mul binary32 three dahMin) (mul binary32 three dahMax) (mul binary32 three x) tt tt (scale-in binary32 dahMin dahMax x tt tt i three tt)
+
+set : (b : Bool) → T b → b ≡ true
+set true t = refl
+set false t = absurd t
+
+unset : (b : Bool) → T (not b) → b ≡ false
+unset true t = absurd t
+unset false t = refl
 
 -- ---- for good settings
 module _ (k : Settings) (Good-k : Good k) (Held-k : Held k) where
@@ -454,3 +470,166 @@ module _ (k : Settings) (Good-k : Good k) (Held-k : Held k) where
         by-cond Sane (p .ready) (followed k p (withPair heard (observed k p d)) d) (opened k (withPair heard (observed k p d)))
         (λ e. subst (λ (q : Pair). Sane (followed k p (withPair heard q) d)) (sym (observed-ready e)) (followed-ready e .sane))
         (λ e. subst (λ (q : Pair). Sane (opened k (withPair heard q))) (sym (observed-unready e)) (started-sane e))
+
+  -- ---- the other calls
+
+  pub fresh-sane : Sane fresh
+  unfolding all fits
+  fresh-sane = record {
+    fine = record { pair = tt; ring = tt; recent = tt; wpm = tt; egap = tt; hint = tt };
+    floats = record { lo = tt; hi = tt; wpm = tt; egap = tt };
+  }
+
+  pub hint-sane : (m : Tracker) (h : Float) → Sane m → Sane (setHint k m h)
+  unfolding setHint
+  hint-sane m h s =
+      let f = s .fine in
+      let g = s .floats in
+      record {
+        fine = record {
+          pair = f .pair;
+          ring = f .ring;
+          recent = f .recent;
+          wpm = f .wpm;
+          egap = f .egap;
+          hint = by-cond (λ (o : Option Float). T (hintSound k o)) (finite h) (some (clamp (k .ratioMin) (k .ratioMax) h)) none
+              (λ e. outside (k .ratioMin) (k .ratioMax) (clamp (k .ratioMin) (k .ratioMax) h) (G.hint-in k Good-k h (finite-number h (passed e)))) (λ e. tt);
+        };
+        floats = record { lo = g .lo; hi = g .hi; wpm = g .wpm; egap = g .egap };
+      }
+
+  moved-positive : (o : Option Float) (d : Float) → T (positiveOr o) → T (fitsOr o) → In durationMin durationMax d → T (positive (gapMoved k o d))
+  unfolding ofBits
+  moved-positive none d p f i = between durationMin d durationMax tt tt (i .0) (i .1)
+  moved-positive (some g) d p f i = G.gap-learned-positive k Good-k g d f p i
+
+  moved-fits : (o : Option Float) (d : Float) → T (fits binary32 d) → T (fits binary32 (gapMoved k o d))
+  moved-fits none d f = f
+  moved-fits (some g) d f = add-fits binary32 g (mul binary32 (k .weight) (sub binary32 d g))
+
+  pub gap-sane : (m : Tracker) (d : Float) → Sane m → T (duration d) → T (fits binary32 d) → Sane (onGap k m d)
+  unfolding onGap
+  gap-sane m d s t E =
+      let f = s .fine in
+      let g = s .floats in
+      record {
+        fine = record { pair = f .pair; ring = f .ring; recent = f .recent; wpm = f .wpm; egap = moved-positive (m .egap) d (f .egap) (g .egap) (inside durationMin durationMax d t); hint = f .hint };
+        floats = record { lo = g .lo; hi = g .hi; wpm = g .wpm; egap = moved-fits (m .egap) d E };
+      }
+
+  gap-pair : (m : Tracker) (d : Float) → onGap k m d .pair ≡ m .pair
+  unfolding onGap
+  gap-pair m d = refl
+
+  pub gap-up : (m : Tracker) (d : Float) → Up m → T (duration d) → T (fits binary32 d) → Up (onGap k m d)
+  gap-up m d u t E = record { sane = gap-sane m d (u .sane) t E; ready = ap (λ (p : Pair). p .ready) (gap-pair m d) ∙ u .ready }
+
+  -- a finish
+  pub begin-sane : (m : Tracker) → Sane m → Sane (bootstrapped k m)
+  unfolding bootstrapped
+  begin-sane m s =
+      by-cond Sane (canBegin m) (timed k (bound k (withPair m (initialized k (m .pair .init))))) m
+      (λ e. begins (both (not (m .pair .ready)) (leb 2 (length (m .pair .init))) (passed e))) (λ e. s)
+    where
+      begins : T (not (m .pair .ready)) × T (leb 2 (length (m .pair .init))) → Sane (timed k (bound k (withPair m (initialized k (m .pair .init)))))
+      begins b =
+          let l = m .pair .init in
+          let n = leb→le 2 (length l) (b .1) in
+          let f = s .fine .pair in
+          let few = unready-few k (m .pair) (unset (m .pair .ready) (b .0)) f in
+          timed-up (bound k (withPair m (initialized k l))) (locked-up m l (rest-of m s) (durations-in l (pair-init k (m .pair) f)) (omega arith) (omega arith)) .sane
+
+  -- a seed
+  pub seed-up : (m : Tracker) (v : Float) → Sane m → T (positive v) → Up (seeded k m v)
+  unfolding seeded
+  seed-up m v s p =
+      let d = seedDit k v in
+      let i = G.seed-in k Good-k v p in
+      let f = s .fine in
+      let u = withUncorroborated (withEgap (withRecent (withRing (withPair m (seedPair d)) []) []) none) true in
+      timed-up u (record {
+        sane = record {
+          fine = record {
+            pair = ready-sound k (seedPair d) refl i (G.dah-anew-in k Good-k d three i (G.ideal-in k Good-k)) (none-all duration);
+            ring = none-all (entrySound k);
+            recent = none-all duration;
+            wpm = f .wpm;
+            egap = tt;
+            hint = f .hint;
+          };
+          floats = record {
+            lo = clamp-fits binary32 (k .ditMin) (k .ditMax) (div binary32 paris v) (Held-k .ditMinHeld) (Held-k .ditMaxHeld) (div-fits binary32 paris v);
+            hi = mul-fits binary32 three d;
+            wpm = s .floats .wpm;
+            egap = tt;
+          };
+        };
+        ready = refl;
+      })
+
+  pub reseed-sane : (m : Tracker) → Sane m → Sane (reseeded k m)
+  unfolding reseeded
+  reseed-sane m s = by-cond Sane (m .pair .ready) (timed k m) m (λ e. timed-up m (record { sane = s; ready = e }) .sane) (λ e. s)
+
+  pub settled-sane : (m : Tracker) → Sane m → Sane (settled m)
+  unfolding settled
+  settled-sane m s =
+      let f = s .fine in
+      let g = s .floats in
+      record { fine = record { pair = f .pair; ring = f .ring; recent = f .recent; wpm = f .wpm; egap = f .egap; hint = f .hint }; floats = record { lo = g .lo; hi = g .hi; wpm = g .wpm; egap = g .egap } }
+
+  -- ---- assumed dits as dahs
+  dit-finite : (x : Float) → In (k .ditMin) (k .ditMax) x → T (finite x)
+  dit-finite x i = positive-finite x (G.dit-positive k Good-k x i)
+
+  third-loose : (x : Float) → In (k .ditMin) (k .ditMax) x → T (not (isNan (div binary32 x three)))
+  third-loose x i = div-number binary32 x three (dit-finite x i) three-positive
+
+  pub resolve-sane : (m : Tracker) (gaps : List Float) → Sane m → Sane (resolved k m gaps)
+  unfolding resolved
+  resolve-sane m gaps s =
+      by-cond Sane (gapsSayDahs k (m .pair) gaps) (timed k (bound k (withPair m (turned (m .pair))))) m
+      (λ e. turns (is-true-of (both (unsure k (m .pair)) _ (passed e) .0))) (λ e. s)
+    where
+      is-true-of : T (unsure k (m .pair)) → m .pair .ready ≡ true
+      is-true-of t = set (m .pair .ready) (both (m .pair .ready) _ (both (m .pair .ready && (not (m .pair .confirmed) && not (m .pair .placeholderIsLo))) _ t .0) .0)
+      turns : m .pair .ready ≡ true → Sane (timed k (bound k (withPair m (turned (m .pair)))))
+      turns e =
+          let r = rest-of m s in
+          let i = ready-in k (m .pair) e (s .fine .pair) .0 in
+          timed-up (bound k (withPair m (turned (m .pair))))
+          (bound-up (withPair m (turned (m .pair))) (record { ring = r .ring; recent = r .recent; wpm = r .wpm; wpmFits = r .wpmFits; egap = r .egap; egapFits = r .egapFits; hint = r .hint })
+          (record { number = third-loose (m .pair .lo) i; bounded = dit-finite (m .pair .lo) i; lo = div-fits binary32 (m .pair .lo) three; hi = s .floats .lo }) e (pair-init k (m .pair) (s .fine .pair))) .sane
+
+  -- ---- for the bank
+  pub gaps-up : (m : Tracker) (l : List Float) → Up m → AllIn durationMin durationMax l → T (all (fits binary32) l) → Up (elementGaps k m l)
+  unfolding elementGaps all AllIn
+  gaps-up m [] u i F = u
+  gaps-up m (g ∷ gs) u i F =
+      let b = both (fits binary32 g) (all (fits binary32) gs) F in
+      gaps-up (elementGap k m g) gs
+      (by-cond Up (lt g (mul binary32 two (ditEstimate k m))) (onGap k m g) m (λ e. gap-up m g u (outside durationMin durationMax g (i .0)) (b .0)) (λ e. u)) (i .1) (b .1)
+
+  pub marks-up : (l g : List Float) → AllIn durationMin durationMax l → 1 ≤ length l → length l ≤ 12 → AllIn durationMin durationMax g → T (all (fits binary32) g) → Up (fromMarks k l g)
+  unfolding fromMarks
+  marks-up l g a h w b F =
+      timed-up (elementGaps k (bound k (withPair fresh (initialized k l))) g) (gaps-up (bound k (withPair fresh (initialized k l))) g (locked-up fresh l (rest-of fresh fresh-sane) a h w) b F)
+
+  other-loose : (p : Pair) → T (pairSound k p) → p .ready ≡ true → T (fits binary32 (p .lo)) → T (fits binary32 (p .hi)) → Loose (otherPair p)
+  other-loose p t e F H =
+      let i = ready-in k p e t in
+      by-cond Loose (p .placeholderIsLo) _ _
+      (λ x. record { number = finite-number (p .hi) (dah-finite (p .hi) (i .1)); bounded = threefold-dah (p .hi) (i .1); lo = H; hi = mul-fits binary32 three (p .hi) })
+      (λ x. record { number = third-loose (p .lo) (i .0); bounded = dit-finite (p .lo) (i .0); lo = div-fits binary32 (p .lo) three; hi = F })
+
+  other-begun : (p : Pair) → (otherPair p .ready ≡ true) × (otherPair p .init ≡ [])
+  other-begun p = by-cond (λ (q : Pair). (q .ready ≡ true) × (q .init ≡ [])) (p .placeholderIsLo) _ _ (λ e. (refl, refl)) (λ e. (refl, refl))
+
+  pub other-up : (m : Tracker) → Up m → Up (timed k (bound k (withPair fresh (otherPair (m .pair)))))
+  other-up m u =
+      let p = m .pair in
+      let r = rest-of fresh fresh-sane in
+      let b = other-begun p in
+      timed-up (bound k (withPair fresh (otherPair p)))
+      (bound-up (withPair fresh (otherPair p)) (record { ring = r .ring; recent = r .recent; wpm = r .wpm; wpmFits = r .wpmFits; egap = r .egap; egapFits = r .egapFits; hint = r .hint })
+      (other-loose p (u .sane .fine .pair) (u .ready) (u .sane .floats .lo) (u .sane .floats .hi)) (b .0) (subst (λ (z : List Float). T (allDurations z)) (sym (b .1)) (none-all duration)))
