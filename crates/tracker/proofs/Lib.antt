@@ -8,3 +8,4 @@ pub mod Ringing
 pub mod Relocking
 pub mod Soundness
 pub mod Keeping
+pub mod Marking

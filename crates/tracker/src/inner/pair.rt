@@ -7,7 +7,7 @@ use ranges::within;
 ghost use mathlib.Core.Path.{_≡_};
 ghost use mathlib.Core.Bool.{true, false};
 ghost use Prim.Native.Nat.{_≤_};
-ghost use lib.ListN.{take};
+ghost use lib.ListN.{take, length};
 ghost use Rattle.ranges.specs.Limits.{durationMin, durationMax};
 ghost use Rattle.ranges.specs.Interval.{In, AllIn};
 ghost use Rattle.ranges.specs.Settings.{standard};
@@ -109,7 +109,7 @@ pub(crate) fn learn(p: ClusterPair, v: f32) -> ClusterPair
 
 // An unready pair keeps v, and locks at the fifth mark.
 pub(crate) fn start(p: ClusterPair, v: f32) -> ClusterPair
-    requires { ⌜ p .«init_len» ≤ 4 ⌝ }
+    requires { ⌜ (p .«init_len» ≤ 12) × (length (take (p .«init_len») (p .init)) ≤ 4) ⌝ }
     requires { ⌜ AllIn durationMin durationMax (take (p .«init_len») (p .init)) ⌝ }
     requires { ⌜ In durationMin durationMax v ⌝ }
     ensures { λ r. ⌜ (viewPair r ≡ started standard (viewPair p) v) × (r .«init_len» ≤ 4) ⌝ }

@@ -1,3 +1,4 @@
+use native.Mathlib.Omega.{arith}
 use borrow.Author.Needs.{needs}
 use Rattle.tracker.proofs.inner.mark.entry.Statement.{statement}
 use Rattle.tracker.proofs.inner.mark.entry.Tie as tie
@@ -11,7 +12,7 @@ boundary-requires c κs = search needs
 
 -- src/inner/mark.rt:22:1
 returns : tie.Need-returns
-returns c = ?
+returns c = rw (c .boundary .ensures)
 
 pub entry-spec : {M : Type 1} → statement M
 entry-spec = tie.close (tie.spec boundary-requires returns)

@@ -29,7 +29,7 @@ mul-q c = search needs
 
 -- src/inner/pair.rt:124:5
 element-write-q : tie.Need-element-write-q
-element-write-q c = search needs
+element-write-q c = let s = c .before in let i = s .args .p .init in let n = s .args .p .«init_len» in let l : length i ≡ 12 = search needs in let g = as-many i n (omega arith) in omega arith
 
 -- src/inner/pair.rt:125:18
 add-q : tie.Need-add-q
