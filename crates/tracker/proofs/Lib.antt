@@ -9,3 +9,4 @@ pub mod Relocking
 pub mod Soundness
 pub mod Keeping
 pub mod Marking
+pub mod Stored

@@ -78,3 +78,12 @@ pub(crate) fn marked(t: SpeedTracker, d: f32) -> SpeedTracker
     u.pair = q;
     open(u)
 }
+
+// One mark: a sound tracker learns d and stays sound.
+pub fn on_mark(t: SpeedTracker, d: f32) -> SpeedTracker
+    requires { ⌜ T (sound standard t) ⌝ }
+    requires { ⌜ T (duration d) ⌝ }
+    ensures { λ r. ⌜ (view r ≡ onMark standard (view t) d) × T (sound standard r) ⌝ }
+{
+    marked(t, d)
+}
