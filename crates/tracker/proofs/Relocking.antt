@@ -15,10 +15,11 @@ use Rattle.ranges.specs.Interval.{AllIn}
 use Rattle.ranges.proofs.Compare.{passed}
 use Rattle.tracker.specs.declared.RingEntry.{RingEntry}
 use Rattle.tracker.specs.declared.SpeedTracker.{SpeedTracker}
-use Rattle.tracker.specs.Model.{Tracker, view}
+use Rattle.tracker.specs.Model.{Tracker, view, withPair}
 use Rattle.tracker.specs.Parts.{Counted, Full, Checkable}
 use Rattle.tracker.specs.Sound.{ringSound}
-use Rattle.tracker.specs.Steps.{durations, allClassed, uniform, drifts, fragment, drifted, recoveredBy, relocked, checked}
+use Rattle.tracker.specs.Steps.{durations, allClassed, uniform, drifts, fragment, drifted, recoveredBy, relocked, checked, timed, bound, canBegin, bootstrapped, reseeded}
+use Rattle.tracker.specs.Lock.{initialized}
 use Rattle.tracker.proofs.Ringing.{both, whole}
 
 pub full-count : (l : List RingEntry) (n : ℕ) → length l ≡ 12 → n ≤ 12 → uniform (take n l) ≡ true → n ≡ 12
@@ -74,3 +75,29 @@ ring-marks l d n h e q =
 
 pub some-count : (l : List Float) (n : ℕ) → 1 ≤ length (take n l) → 1 ≤ n
 some-count l n h = omega (arith, length-take n l)
+
+-- ---- a finish
+module _ (k : Settings) (m : Tracker) where
+  pub begins : (r : Tracker) → canBegin m ≡ true → r ≡ timed k (bound k (withPair m (initialized k (m .pair .init)))) → r ≡ bootstrapped k m
+  unfolding bootstrapped
+  begins r e q = q ∙ sym (ap (λ (b : Bool). cond b (timed k (bound k (withPair m (initialized k (m .pair .init))))) m) e)
+
+  pub begins-not : canBegin m ≡ false → m ≡ bootstrapped k m
+  unfolding bootstrapped
+  begins-not e = sym (ap (λ (b : Bool). cond b (timed k (bound k (withPair m (initialized k (m .pair .init))))) m) e)
+
+  pub times-ready : (r : Tracker) → m .pair .ready ≡ true → r ≡ timed k m → r ≡ reseeded k m
+  unfolding reseeded
+  times-ready r e q = q ∙ sym (ap (λ (b : Bool). cond b (timed k m) m) e)
+
+  pub times-not : m .pair .ready ≡ false → m ≡ reseeded k m
+  unfolding reseeded
+  times-not e = sym (ap (λ (b : Bool). cond b (timed k m) m) e)
+
+-- the start marks of a tracker that can begin
+pub begin-counts : (t : SpeedTracker) → length (t .pair .init) ≡ 12 → t .pair .«init_len» ≤ 12 → canBegin (view t) ≡ true → 1 ≤ t .pair .«init_len»
+begin-counts t h c e =
+    let p = both (not (t .pair .ready)) (leb 2 (length (take (t .pair .«init_len») (t .pair .init)))) (passed e) in
+    let q = leb→le 2 (length (take (t .pair .«init_len») (t .pair .init))) (p .1) in
+    let w = length-take-le (t .pair .«init_len») (t .pair .init) (omega arith) in
+    omega arith

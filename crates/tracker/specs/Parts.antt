@@ -9,6 +9,8 @@ use Rattle.ranges.specs.Settings.{standard}
 use Rattle.ranges.specs.Mean.{meanOf}
 use Rattle.tracker.specs.declared.inner.lock.Halves.{Halves}
 use Rattle.tracker.specs.declared.SpeedTracker.{SpeedTracker}
+use Rattle.tracker.specs.declared.inner.resolve.Gaps.{Gaps}
+use Rattle.tracker.specs.Steps.{band}
 use Rattle.tracker.specs.Model.{Tracker, view}
 use Rattle.tracker.specs.Lock.{cut}
 use Rattle.tracker.specs.Sound.{ringSound, allDurations}
@@ -39,3 +41,8 @@ pub record Drivable (m : Tracker) : Type 0 where
 pub record Checkable (t : SpeedTracker) : Type 0 where
   pub counted : Counted t
   pub drivable : Drivable (view t)
+
+-- the gaps of a band, in the first places
+pub record Banded (lo : Float) (gaps : List Float) (r : Gaps) : Type 0 where
+  pub few : r .n ≤ 12
+  pub is : take (r .n) (r .at) ≡ band standard lo gaps

@@ -1,0 +1,25 @@
+use borrow.Author.Needs.{needs}
+use Rattle.tracker.proofs.inner.resolve.in_band.Statement.{statement}
+use Rattle.tracker.proofs.inner.resolve.in_band.Tie as tie
+use Rattle.tracker.proofs.inner.resolve.in_band.Reads as reads
+use Rattle.tracker.proofs.inner.resolve.in_band.Lts as lts
+use Rattle.ranges.proofs.is_finite.Reads as is-finite-reads
+
+-- src/inner/resolve.rt:25:8
+is-finite-requires : tie.Need-is-finite-requires
+is-finite-requires c κs = search needs
+
+-- src/inner/resolve.rt:27:13
+returns : tie.Need-returns
+returns c = ?
+
+-- src/inner/resolve.rt:22:1
+returns-2 : tie.Need-returns-2
+returns-2 c = ?
+
+-- src/inner/resolve.rt:22:1
+returns-3 : tie.Need-returns-3
+returns-3 c = search needs
+
+pub in-band-spec : {M : Type 1} → statement M
+in-band-spec = tie.close (tie.spec is-finite-requires returns returns-2 returns-3)

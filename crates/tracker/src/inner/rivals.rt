@@ -1,0 +1,1 @@
+// Trackers that a bank makes.
