@@ -10,3 +10,5 @@ pub mod Soundness
 pub mod Keeping
 pub mod Marking
 pub mod Stored
+pub mod Banding
+pub mod Rivalling

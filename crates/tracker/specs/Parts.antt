@@ -1,5 +1,7 @@
 -- What the parts of the code say. Definitions only.
 use mathlib.Core.Path.{_≡_}
+use mathlib.Core.Bool.{Bool, true, false}
+use mathlib.Core.Option.{Option, none, some}
 use mathlib.Core.List.{List}
 use Prim.Native.Nat.{_≤_}
 use lib.ListN.{length, take, drop}
@@ -46,3 +48,8 @@ pub record Checkable (t : SpeedTracker) : Type 0 where
 pub record Banded (lo : Float) (gaps : List Float) (r : Gaps) : Type 0 where
   pub few : r .n ≤ 12
   pub is : take (r .n) (r .at) ≡ band standard lo gaps
+
+-- a tracker where there is one
+abbrev pub other : Bool → SpeedTracker → Option Tracker
+other true t = some (view t)
+other false t = none

@@ -15,7 +15,7 @@ ghost use Rattle.ranges.specs.Interval.{In, AllIn};
 ghost use Rattle.ranges.specs.Settings.{standard};
 ghost use Rattle.tracker.specs.Model.{view, viewPair};
 ghost use Rattle.tracker.specs.Parts.{Banded};
-ghost use Rattle.tracker.specs.Sound.{sound};
+ghost use Rattle.tracker.specs.Sound.{sound, pairSound};
 ghost use Rattle.tracker.specs.Steps.{inBand, agree, band, unsure, gapsSayDahs, turned, resolved};
 
 // Whether a gap lies in the band of the dit lo.
@@ -56,4 +56,88 @@ pub(crate) fn banded(lo: f32, gaps: &[f32]) -> Gaps
         }
     }
     b
+}
+
+// Whether the gaps of a band agree: two at least, that lie close together.
+pub(crate) fn agree(xs: &[f32]) -> bool
+    requires { ⌜ AllIn durationMin durationMax (now xs) ⌝ }
+    requires { ⌜ length (now xs) ≤ 12 ⌝ }
+    ensures { λ r. ⌜ r ≡ agree (now (xs .entry)) ⌝ }
+{
+    if xs.len() < 2 {
+        return false;
+    }
+    let m = mean_wide(xs);
+    deviation(xs, m) < 0.35
+}
+
+// Whether the lock is on assumed dits of 60 ms at least.
+pub(crate) fn unsure(p: ClusterPair) -> bool
+    ensures { λ r. ⌜ r ≡ unsure standard (viewPair p) ⌝ }
+{
+    if p.ready {
+        if p.confirmed {
+            return false;
+        }
+        if p.placeholder_is_lo {
+            return false;
+        }
+        if is_finite(p.lo) {
+            return !(p.lo < 3.0 * 20.0);
+        }
+    }
+    false
+}
+
+// Whether the gaps say that the assumed dits are dahs.
+pub(crate) fn says_dahs(p: ClusterPair, gaps: &[f32]) -> bool
+    requires { ⌜ T (pairSound standard (viewPair p)) ⌝ }
+    requires { ⌜ length (now gaps) ≤ 12 ⌝ }
+    ensures { λ r. ⌜ r ≡ gapsSayDahs standard (viewPair p) (now (gaps .entry)) ⌝ }
+{
+    if unsure(p) {
+        let b = banded(p.lo, gaps);
+        let at = b.at;
+        let n = b.n;
+        return agree(&at[..n]);
+    }
+    false
+}
+
+// Whether assumed dits are to be read as dahs.
+pub fn can_resolve(t: SpeedTracker, gaps: &[f32]) -> bool
+    requires { ⌜ T (sound standard t) ⌝ }
+    requires { ⌜ length (now gaps) ≤ 12 ⌝ }
+    ensures { λ r. ⌜ r ≡ gapsSayDahs standard (view t .pair) (now (gaps .entry)) ⌝ }
+{
+    let p = t.pair;
+    says_dahs(p, gaps)
+}
+
+// What was taken for the dit is the dah.
+pub(crate) fn turned(p: ClusterPair) -> ClusterPair
+    ensures { λ r. ⌜ (viewPair r ≡ turned (viewPair p)) × (r .«init_len» ≡ p .«init_len») ⌝ }
+{
+    let mut q = p;
+    q.hi = p.lo;
+    q.lo = p.lo / 3.0;
+    q.placeholder_is_lo = true;
+    q.confirmed = false;
+    q
+}
+
+// Assumed dits are read as dahs, where the gaps say so.
+pub fn resolve_unimodal_bootstrap(t: SpeedTracker, gaps: &[f32]) -> SpeedTracker
+    requires { ⌜ T (sound standard t) ⌝ }
+    requires { ⌜ length (now gaps) ≤ 12 ⌝ }
+    ensures { λ r. ⌜ (view r ≡ resolved standard (view t) (now (gaps .entry))) × T (sound standard r) ⌝ }
+{
+    if can_resolve(t, gaps) {
+        let p = t.pair;
+        let q = turned(p);
+        let mut u = t;
+        u.pair = q;
+        return timed(bound(u));
+    }
+    t
 }

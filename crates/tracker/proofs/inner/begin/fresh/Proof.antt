@@ -1,3 +1,9 @@
+use Rattle.tracker.specs.Sound.{sound, proper}
+use Rattle.tracker.specs.Model.{all}
+use lib.Ieee.{ofBits}
+use mathlib.Core.Path.{refl}
+use native.Mathlib.Omega.{arith}
+use borrow.Author.Needs.{needs}
 use Rattle.tracker.proofs.inner.begin.fresh.Statement.{statement}
 use Rattle.tracker.proofs.inner.begin.fresh.Tie as tie
 use Rattle.tracker.proofs.inner.begin.fresh.Reads as reads
@@ -5,7 +11,8 @@ use Rattle.tracker.proofs.inner.begin.fresh.Lts as lts
 
 -- src/inner/begin.rt:20:1
 returns : tie.Need-returns
-returns c = ?
+unfolding ofBits sound proper all
+returns c = (refl, tt)
 
 pub fresh-spec : {M : Type 1} → statement M
 fresh-spec = tie.close (tie.spec returns)

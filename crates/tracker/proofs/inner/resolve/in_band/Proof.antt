@@ -1,3 +1,6 @@
+use lib.Ieee.{div, ofBits}
+use mathlib.Core.Path.{sym, _∙_}
+use native.Mathlib.Omega.{arith}
 use borrow.Author.Needs.{needs}
 use Rattle.tracker.proofs.inner.resolve.in_band.Statement.{statement}
 use Rattle.tracker.proofs.inner.resolve.in_band.Tie as tie
@@ -11,11 +14,13 @@ is-finite-requires c κs = search needs
 
 -- src/inner/resolve.rt:27:13
 returns : tie.Need-returns
-returns c = ?
+unfolding div ofBits
+returns c = rw (sym (c .before .before .is-finite .ensures) ∙ c .before .if1 .taken, c .if2 .taken)
 
 -- src/inner/resolve.rt:22:1
 returns-2 : tie.Need-returns-2
-returns-2 c = ?
+unfolding div ofBits
+returns-2 c = rw (sym (c .before .before .is-finite .ensures) ∙ c .before .if1 .taken, c .if2 .left)
 
 -- src/inner/resolve.rt:22:1
 returns-3 : tie.Need-returns-3
