@@ -33,6 +33,7 @@ add-mono f x x' y y' p p' q q' h k =
 pub sub-mono : (f : Format) (x x' y y' : Float) → T (finite x) → T (finite x') → T (finite y) → T (finite y') → T (le x x') → T (le y' y) → T (le (sub f x y) (sub f x' y'))
 sub-mono f x x' y y' p p' q q' h k =
     rw (sub-is f x y, sub-is f x' y') (add-mono f x x' (neg y) (neg y') p p' (neg-finite y q) (neg-finite y' q') h (le-neg y' y k))
+
 -- ---- a factor that is not below zero keeps the order, over both signs
 mul-cross : (a c u v w u' v' w' : ℕ) → u * w' + v' * w ≤ u' * w + v * w' → (a * u) * (c * w') + (a * v') * (c * w) ≤ (a * u') * (c * w) + (a * v) * (c * w')
 mul-cross a c u v w u' v' w' k =
@@ -43,6 +44,7 @@ pub mul-mono-right : (f : Format) (x y y' : Float) → T (nonneg x) → T (finit
 mul-mono-right f x y y' p q q' k =
     rounded-mono f (mul f x y) (mul f x y') _ _ _ _ _ _ (mul-plus f x y p q) (mul-plus f x y' p q')
     (mul-cross (ps x) (den x) (ps y) (ng y) (den y) (ps y') (ng y') (den y') (le→signed y y' q q' k))
+
 -- ---- a quotient by a divisor above zero
 div-cross : (a b c a' b' c' u w : ℕ) → a * c' + b' * c ≤ a' * c + b * c' → (a * w) * (u * c') + (b' * w) * (u * c) ≤ (a' * w) * (u * c) + (b * w) * (u * c')
 div-cross a b c a' b' c' u w k =

@@ -70,6 +70,7 @@ split-signs (fin s m e) (inf false) p q = tt
 split-signs (fin true m e) (fin false n d) p q = from-signs (m * up e * down d) (n * up d * down e)
 split-signs (fin false m e) (fin t n d) p q = absurd (false≢true p)
 split-signs (fin true m e) (fin true n d) p q = absurd (true≢false q)
+
 -- ---- a zero rounds to a zero
 round-zero : (f : Format) (s : Bool) (c : ℕ) → 0 < c → HasValue (round f s 0 c) s 0 c
 round-zero f s c C = round-exact f s 0 c 0 0 C (pow-pos (prec f)) (pow-pos (low f + suc (emax f))) (omega arith)
@@ -197,6 +198,7 @@ div-rounded f (fin true m e) (fin false n d) p q =
 pub sub-is : (f : Format) (x y : Float) → sub f x y ≡ add f x (neg y)
 unfolding sub
 sub-is f x y = refl
+
 pub sub-rounded : (f : Format) (x y : Float) → T (finite x) → T (finite y) → Rounded f (sub f x y) (ps x * den y + ng y * den x) (ng x * den y + ps y * den x) (den x * den y)
 sub-rounded f x y p q =
     subst (λ (z : Float). Rounded f z (ps x * den y + ng y * den x) (ng x * den y + ps y * den x) (den x * den y)) (sym (sub-is f x y))

@@ -102,6 +102,7 @@ signed→le (fin true m e) (fin true n d) p q h = from-ge (m * up e * down d) (n
 signed→le (fin true m e) (fin false n d) p q h = from-signs (m * up e * down d) (n * up d * down e)
 signed→le (fin false m e) (fin true n d) p q h =
     and-i (eqb (m * up e * down d) (n * up d * down e)) (eqb (m * up e * down d) 0) (eq→eqb {a = m * up e * down d} {b = n * up d * down e} (omega arith)) (eq→eqb {a = m * up e * down d} {b = 0} (omega arith))
+
 -- ---- what is not below zero, and what is above it
 -- not below zero
 abbrev pub nonneg : Float → Bool
@@ -168,6 +169,7 @@ le-trans-float (fin s m e) (fin t n d) (fin u i j) h k =
     let y = fin t n d in
     let z = fin u i j in
     signed→le x z tt tt (trans-cross (ps x) (ng x) (den x) (ps y) (ng y) (den y) (ps z) (ng z) (den z) (down-pos d) (le→signed x y tt tt h) (le→signed y z tt tt k))
+
 -- ---- negation
 pub neg-finite : (x : Float) → T (finite x) → T (finite (neg x))
 unfolding neg
@@ -194,6 +196,7 @@ unfolding neg
 neg-den nan = refl
 neg-den (inf s) = refl
 neg-den (fin s m e) = refl
+
 pub neg-neg : (x : Float) → neg (neg x) ≡ x
 unfolding neg
 neg-neg nan = refl
@@ -220,6 +223,7 @@ le-neg (fin false m e) (fin false n d) h = signed→le (fin true n d) (fin true 
 le-neg (fin true m e) (fin true n d) h = signed→le (fin false n d) (fin false m e) tt tt (omega (arith, le→signed (fin true m e) (fin true n d) tt tt h))
 le-neg (fin true m e) (fin false n d) h = signed→le (fin true n d) (fin false m e) tt tt (omega (arith, le→signed (fin true m e) (fin false n d) tt tt h))
 le-neg (fin false m e) (fin true n d) h = signed→le (fin false n d) (fin true m e) tt tt (omega (arith, le→signed (fin false m e) (fin true n d) tt tt h))
+
 -- ---- finite values
 pub finite-number : (x : Float) → T (finite x) → T (not (isNan x))
 unfolding isNan

@@ -28,7 +28,6 @@ pub standard-held : Held standard
 unfolding fits ofBits
 standard-held = record { ratioMinHeld = tt; ratioMaxHeld = tt; ditMinHeld = tt; ditMaxHeld = tt; weightHeld = tt; leadHeld = tt; pruneHeld = tt }
 
-
 pub dit-in : (x : Float) → T (not (isNan x)) → In (standard .ditMin) (standard .ditMax) (clamp (standard .ditMin) (standard .ditMax) x)
 dit-in = G.dit-in standard standard-good
 

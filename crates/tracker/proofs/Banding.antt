@@ -107,6 +107,7 @@ band-in lo (g ∷ gs) i = go (inBand standard lo g) (band standard lo gs) refl (
         let a = both (finite g) (le low g && lt g high) (passed e) in
         let b = both (le low g) (lt g high) (a .1) in
         (le-trans-float durationMin low g (floor-in lo i) (b .0), le-trans-float g high durationMax (lt→le g high (b .1)) (roof-in lo i))
+
     go : (b : Bool) (l : List Float) → inBand standard lo g ≡ b → AllIn durationMin durationMax l → AllIn durationMin durationMax (consIf b g l)
     go true l e m = (one-in e, m)
     go false l e m = m

@@ -93,6 +93,7 @@ within i best top (r ∷ rs) h = step (within (suc i) (cond (lt top r) i best) (
   where
     step : {a : ℕ} → a < suc i + length rs → a < i + suc (length rs)
     step q = omega arith
+
     chosen : (b : Bool) → cond b i best < suc i + length rs
     chosen true = omega arith
     chosen false = omega arith

@@ -245,20 +245,24 @@ module _ (k : Settings) (Good-k : Good k) (Held-k : Held k) where
   estimated-in lo none i t = i
   estimated-in lo (some g) i t = G.estimate-in k Good-k lo g i (positive-finite g t)
 
-  pub ready-dit : (m : Tracker) → Up m → In (k .ditMin) (k .ditMax) (m .pair .lo)
-  ready-dit m u = ready-in k (m .pair) (u .ready) (u .sane .fine .pair) .0
+  module _ (m : Tracker) (f : Fine k m) (e : m .pair .ready ≡ true) where
+    pub ready-dit : In (k .ditMin) (k .ditMax) (m .pair .lo)
+    ready-dit = ready-in k (m .pair) e (f .pair) .0
 
-  pub ready-dah : (m : Tracker) → Up m → In dahMin dahMax (m .pair .hi)
-  ready-dah m u = ready-in k (m .pair) (u .ready) (u .sane .fine .pair) .1
+    pub ready-dah : In dahMin dahMax (m .pair .hi)
+    ready-dah = ready-in k (m .pair) e (f .pair) .1
 
-  pub ready-estimate : (m : Tracker) → Up m → In (k .ditMin) (k .ditMax) (ditEstimate k m)
-  ready-estimate m u = estimated-in (m .pair .lo) (m .egap) (ready-dit m u) (u .sane .fine .egap)
+    pub ready-estimate : In (k .ditMin) (k .ditMax) (ditEstimate k m)
+    ready-estimate = estimated-in (m .pair .lo) (m .egap) ready-dit (f .egap)
 
-  speed-in : (m : Tracker) → Up m → In speedLeast speedMost (speed k m)
-  speed-in m u = G.speed-in k Good-k (ditEstimate k m) (ready-estimate m u)
+    speed-in : In speedLeast speedMost (speed k m)
+    speed-in = G.speed-in k Good-k (ditEstimate k m) ready-estimate
 
-  speed-positive : (m : Tracker) → Up m → T (positive (speed k m))
-  speed-positive m u = let i = speed-in m u in between speedLeast (speed k m) speedMost speed-ends speed-ends' (i .0) (i .1)
+    speed-positive : T (positive (speed k m))
+    speed-positive = between speedLeast (speed k m) speedMost speed-ends speed-ends' (speed-in .0) (speed-in .1)
+
+    pub timed-fine : Fine k (timed k m)
+    timed-fine = record { pair = f .pair; ring = f .ring; recent = f .recent; wpm = speed-positive; egap = f .egap; hint = f .hint }
 
   pub timed-up : (m : Tracker) → Up m → Up (timed k m)
   timed-up m u =
@@ -266,7 +270,7 @@ module _ (k : Settings) (Good-k : Good k) (Held-k : Held k) where
       let g = u .sane .floats in
       record {
         sane = record {
-          fine = record { pair = f .pair; ring = f .ring; recent = f .recent; wpm = speed-positive m u; egap = f .egap; hint = f .hint };
+          fine = timed-fine m f (u .ready);
           floats = record { lo = g .lo; hi = g .hi; wpm = div-fits binary32 paris (ditEstimate k m); egap = g .egap };
         };
         ready = u .ready;
@@ -286,7 +290,7 @@ module _ (k : Settings) (Good-k : Good k) (Held-k : Held k) where
       let g = u .sane .floats in
       record {
         sane = record {
-          fine = record { pair = f .pair; ring = f .ring; recent = f .recent; wpm = averaged-positive (m .wpm) (speed k m) (f .wpm) (g .wpm) (speed-in m u); egap = f .egap; hint = f .hint };
+          fine = record { pair = f .pair; ring = f .ring; recent = f .recent; wpm = averaged-positive (m .wpm) (speed k m) (f .wpm) (g .wpm) (speed-in m f (u .ready)); egap = f .egap; hint = f .hint };
           floats = record { lo = g .lo; hi = g .hi; wpm = averaged-fits (m .wpm) (speed k m) (div-fits binary32 paris (ditEstimate k m)); egap = g .egap };
         };
         ready = u .ready;
@@ -335,6 +339,7 @@ module _ (k : Settings) (Good-k : Good k) (Held-k : Held k) where
     where
       full : (m : Tracker) → uniform (m .ring) ≡ true → 12 ≤ length (m .ring)
       full m e = leb→le 12 (length (m .ring)) (both (leb 12 (length (m .ring))) (allClassed true (m .ring) || allClassed false (m .ring)) (passed e) .0)
+
       recovers : 12 ≤ length (m .ring) → Up (recoveredBy k m)
       recovers n =
           let a = length-map (m .ring) (λ (x : RingEntry). x .«dur_ms») in
@@ -460,6 +465,7 @@ module _ (k : Settings) (Good-k : Good k) (Held-k : Held k) where
       where
         pushed-in : (p : Pair) → T (duration d) → T (allDurations (p .init)) → AllIn durationMin durationMax (p .init ++ (d ∷ []))
         pushed-in p t q = append-in durationMin durationMax (p .init) d (durations-in (p .init) q) (inside durationMin durationMax d t)
+
         fewer : {a b : ℕ} → a ≤ 4 → b ≡ a + 1 → (b ≡ 5 → ⊥) → b ≤ 4
         fewer h e n = omega arith
 
@@ -593,6 +599,7 @@ module _ (k : Settings) (Good-k : Good k) (Held-k : Held k) where
     where
       is-true-of : T (unsure k (m .pair)) → m .pair .ready ≡ true
       is-true-of t = set (m .pair .ready) (both (m .pair .ready) _ (both (m .pair .ready && (not (m .pair .confirmed) && not (m .pair .placeholderIsLo))) _ t .0) .0)
+
       turns : m .pair .ready ≡ true → Sane (timed k (bound k (withPair m (turned (m .pair)))))
       turns e =
           let r = rest-of m s in
@@ -633,3 +640,9 @@ module _ (k : Settings) (Good-k : Good k) (Held-k : Held k) where
       timed-up (bound k (withPair fresh (otherPair p)))
       (bound-up (withPair fresh (otherPair p)) (record { ring = r .ring; recent = r .recent; wpm = r .wpm; wpmFits = r .wpmFits; egap = r .egap; egapFits = r .egapFits; hint = r .hint })
       (other-loose p (u .sane .fine .pair) (u .ready) (u .sane .floats .lo) (u .sane .floats .hi)) (b .0) (subst (λ (z : List Float). T (allDurations z)) (sym (b .1)) (none-all duration)))
+
+  -- gaps leave the pair as it is
+  pub gaps-pair : (m : Tracker) (l : List Float) → elementGaps k m l .pair ≡ m .pair
+  unfolding elementGaps
+  gaps-pair m [] = refl
+  gaps-pair m (g ∷ gs) = gaps-pair (elementGap k m g) gs ∙ by-cond (λ (z : Tracker). z .pair ≡ m .pair) (lt g (mul binary32 two (ditEstimate k m))) (onGap k m g) m (λ e. gap-pair m g) (λ e. refl)

@@ -7,6 +7,9 @@ use Prim.Native.Nat.{ℕ, zero, suc, _+_, _≤_, _<_}
 use native.Mathlib.Numerals.{add-one}
 use native.Mathlib.Omega.{arith}
 use lib.Dec.{T}
+use lib.Ieee.Bits.{is-true}
+use Rattle.ranges.proofs.Compare.{passed}
+use Rattle.tracker.proofs.Ringing.{both}
 use lib.ListN.{length, take, drop, getD, set, length-set}
 use lib.Seq.{take-suc-set, take-suc, take-all, take-length, drop-cons}
 use lib.ListN.{drop-of-length-le}
@@ -14,7 +17,12 @@ use lib.Ieee.{Float, nan, binary32, mul, lt}
 use Rattle.ranges.specs.Settings.{Settings, standard}
 use Rattle.tracker.specs.declared.SpeedTracker.{SpeedTracker}
 use Rattle.tracker.specs.Model.{Pair, Tracker, view, withPair}
-use Rattle.tracker.specs.Parts.{other}
+use Rattle.tracker.specs.Parts.{Counted, other}
+use Rattle.ranges.specs.Limits.{durationMin, durationMax}
+use Rattle.ranges.specs.Interval.{AllIn}
+use Rattle.ranges.proofs.Standard.{standard-good, standard-held}
+use Rattle.tracker.proofs.Keeping.{gaps-pair, locked-up, rest-of, fresh-sane, timed-fine}
+use Rattle.tracker.proofs.Soundness.{sound-by, sound-fine, proper-of}
 use Rattle.tracker.specs.Lock.{initialized}
 use Rattle.tracker.specs.Sound.{sound}
 use Rattle.tracker.specs.Steps.{fresh, timed, bound, elementGap, elementGaps, fromMarks, otherPair, hasOther, threeToOne, ditEstimate, onGap}
@@ -85,3 +93,17 @@ module _ (k : Settings) (m : Tracker) where
   pub other-not : (t : SpeedTracker) → hasOther k (m .pair) ≡ false → other false t ≡ threeToOne k m
   unfolding threeToOne
   other-not t e = sym (ap (λ (b : Bool). cond b (some reading) none) e)
+
+-- a lock from marks, after its gaps, is ready
+pub heard-ready : (l g : List Float) (a b : Tracker) → AllIn durationMin durationMax l → 1 ≤ length l → length l ≤ 12 → a ≡ bound standard (withPair fresh (initialized standard l)) → b ≡ elementGaps standard a g → b .pair .ready ≡ true
+heard-ready l g a b m h w A E =
+    ap (λ (z : Tracker). z .pair .ready) E ∙ ap (λ (p : Pair). p .ready) (gaps-pair standard standard-good standard-held a g)
+    ∙ ap (λ (z : Tracker). z .pair .ready) A ∙ locked-up standard standard-good standard-held fresh l (rest-of standard standard-good standard-held fresh (fresh-sane standard standard-good standard-held)) m h w .ready
+
+-- the speed average begun anew, of a sound tracker that is ready
+pub timed-sound : (u r : SpeedTracker) → T (sound standard u) → view u .pair .ready ≡ true → (view r ≡ timed standard (view u)) × Counted r → T (sound standard r)
+timed-sound u r s e q =
+    sound-by standard r (timed standard (view u)) q (proper-of standard (timed standard (view u)) (timed-fine standard standard-good standard-held (view u) (sound-fine standard u s) e))
+
+pub other-ready : (p : Pair) → hasOther standard p ≡ true → p .ready ≡ true
+other-ready p e = is-true (p .ready) (both (p .ready) (not (p .confirmed)) (both (p .ready && not (p .confirmed)) _ (passed e) .0) .0)

@@ -1,6 +1,6 @@
 // How a tracker becomes ready other than by its fifth mark.
-use crate::RingEntry;
 use crate::ClusterPair;
+use crate::RingEntry;
 use crate::SpeedTracker;
 use crate::inner::lock::initialize;
 use crate::inner::speed::bound;

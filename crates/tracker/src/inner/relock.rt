@@ -39,7 +39,20 @@ pub(crate) fn relock(t: SpeedTracker, marks: [f32; 12], n: usize) -> SpeedTracke
 pub(crate) fn widened(r: [f32; 5]) -> [f32; 12]
     ensures { λ s. ⌜ take 5 s ≡ r ⌝ }
 {
-    [r[0], r[1], r[2], r[3], r[4], 0.0, 0.0, 0.0, 0.0, 0.0, 0.0, 0.0]
+    [
+        r[0],
+        r[1],
+        r[2],
+        r[3],
+        r[4],
+        0.0,
+        0.0,
+        0.0,
+        0.0,
+        0.0,
+        0.0,
+        0.0,
+    ]
 }
 
 // Drift: a lock from the recent marks.

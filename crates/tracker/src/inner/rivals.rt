@@ -141,7 +141,10 @@ pub fn three_to_one_alternative(t: SpeedTracker) -> Alternative
         let mut u = fresh();
         u.pair = q;
         let r = timed(bound(u));
-        return Alternative { is: true, tracker: r };
+        return Alternative {
+            is: true,
+            tracker: r,
+        };
     }
     Alternative {
         is: false,

@@ -1,3 +1,8 @@
+use Rattle.tracker.specs.Model.{Pair}
+use Rattle.ranges.specs.Interval.{within}
+use Rattle.ranges.specs.Settings.{standard}
+use mathlib.Core.Path.{_≡_, ap, sym, _∙_}
+use native.Mathlib.Omega.{arith}
 use borrow.Author.Needs.{needs}
 use Rattle.tracker.proofs.inner.rivals.has_other.Statement.{statement}
 use Rattle.tracker.proofs.inner.rivals.has_other.Tie as tie
@@ -20,7 +25,7 @@ within-requires c κs = search needs
 
 -- src/inner/rivals.rt:122:9
 returns-2 : tie.Need-returns-2
-returns-2 c = ?
+returns-2 c = c .within .ensures ∙ ap (λ (p : Pair). within (standard .ditMin) (standard .ditMax) (p .lo)) (c .before .other-pair .ensures .0) ∙ rw (c .before .before .before .if1 .taken, c .before .before .if2 .left)
 
 -- src/inner/rivals.rt:114:1
 returns-3 : tie.Need-returns-3
