@@ -1,18 +1,18 @@
 -- The moving average g + w * (d - g), each operation rounded, for a weight w above 0 and at most 1/2: it lies between g and d where both are at least 2 ^ -14, and it is finite and above zero for any g that is. Assumes nothing.
-use mathlib.Core.Path.{_≡_, refl, sym, ap, _∙_, subst}
-use mathlib.Core.Logic.{_⊎_, inl, inr}
+use mathlib.Core.Path.{_≡_, refl, sym, ap, subst}
+use mathlib.Core.Logic.{inl, inr}
 use Prim.Native.Nat.{ℕ, _+_, _*_, _≤_, _<_}
 use native.Mathlib.Nat.{le-of-mul-le-mul-right, mul-le-mul-left, mul-le-mul-right, mul-pos, zero-lt-suc}
 use native.Mathlib.Omega.{arith}
 use lib.Dec.{T}
-use lib.Ieee.{Float, Format, binary32, add, sub, mul, neg, le, lt, fits, ofBits}
+use lib.Ieee.{Float, Format, add, sub, mul, neg, le, lt, fits, ofBits}
 use lib.Ieee.Scale.{finite}
 use lib.Ieee.Positive.{den, positive, den-pos, between, positive-finite}
 use Rattle.ranges.specs.Interval.{In}
 use Rattle.ranges.specs.Limits.{nought, half}
 use Rattle.ranges.specs.Average.{average}
 use Rattle.ranges.proofs.Signed.{ps, ng, flat, le→signed, positive-ng, nonneg, positive-nonneg, neg-finite, neg-ps, neg-ng, neg-den, le-trans-float, le-self, finite-number}
-use Rattle.ranges.proofs.Rounded.{Rounded, rounded-mono, rounded-neg, mul-plus, add-rounded, sub-rounded}
+use Rattle.ranges.proofs.Rounded.{rounded-mono, rounded-neg, mul-plus, add-rounded, sub-rounded}
 use Rattle.ranges.proofs.Monotone.{add-mono, sub-mono, mul-mono-right}
 use Rattle.ranges.proofs.Product.{mul-mono-left}
 use Rattle.ranges.proofs.Own.{own-rounded}

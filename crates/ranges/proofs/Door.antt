@@ -1,19 +1,19 @@
 -- The tests at the door, as the code makes them: finite, above zero, a duration. Assumes nothing.
 use mathlib.Core.Path.{_≡_, refl, sym, ap, _∙_, subst}
-use mathlib.Core.Logic.{_⊎_, inl, inr}
-use Prim.Native.Nat.{ℕ, zero, suc, _+_, _*_, _≤_, _<_, zero-le}
-use native.Mathlib.Nat.{le-of-lt, lt-of-le-of-lt, lt-irrefl, zero-lt-suc, mul-pos}
+use Prim.Native.Nat.{ℕ, _*_, _≤_, _<_, zero-le}
+use native.Mathlib.Nat.{lt-of-le-of-lt, lt-irrefl, zero-lt-suc, mul-pos}
 use native.Mathlib.Omega.{arith}
-use mathlib.Core.Bool.{Bool, true, false, not, _&&_, _||_, cond}
-use lib.Dec.{T, ltb, eqb, nltb→le, ltb→lt, lt→ltb, T-not, not-T}
-use lib.Ieee.{Float, nan, inf, fin, up, down, le, lt, eq, isNan, ofBits}
-use lib.Ieee.Fits.{and-i, eq→eqb, up-pos}
+use mathlib.Core.Bool.{Bool, true, false, not, cond}
+use lib.Dec.{T, ltb, nltb→le, ltb→lt, lt→ltb, not-T}
+use lib.Ieee.{Float, nan, inf, fin, up, down, le, lt, isNan, ofBits}
+use lib.Ieee.Fits.{up-pos}
 use lib.Ieee.Bits.{is-true, is-false}
 use lib.Ieee.Positive.{positive, first-pos}
 use lib.Ieee.Scale.{finite}
-use Rattle.ranges.specs.Interval.{In, within}
+use Rattle.ranges.specs.Interval.{In}
 use Rattle.ranges.specs.Limits.{nought, durationMin, durationMax, durationRefusal}
-use Rattle.ranges.proofs.Compare.{nlt→le}
+use Rattle.ranges.proofs.Compare.{nlt→le, le→nlt}
+use Rattle.ranges.proofs.Durations.{duration-finite}
 use Rattle.ranges.proofs.Signed.{finite-number}
 
 -- ---- 0 < x and x < ∞, as the code tests it
@@ -68,3 +68,8 @@ unrefused-in x e = go (finite x) (lt x durationMin) (lt durationMax x) (finite-n
     go true false true n l h e = absurd (lt-irrefl 0 (subst (λ (z : ℕ). 0 < z) e (zero-lt-suc 6)))
     go true true c n l h e = absurd (lt-irrefl 0 (subst (λ (z : ℕ). 0 < z) e (zero-lt-suc 5)))
     go false b c n l h e = absurd (lt-irrefl 0 (subst (λ (z : ℕ). 0 < z) e (zero-lt-suc 4)))
+
+-- and a duration is not refused
+pub in-unrefused : (x : Float) → In durationMin durationMax x → durationRefusal x ≡ 0
+in-unrefused x i =
+    sym (refusal-is x true false false (is-true (finite x) (duration-finite x i)) (is-false (lt x durationMin) (le→nlt durationMin x (i .0))) (is-false (lt durationMax x) (le→nlt x durationMax (i .1))))

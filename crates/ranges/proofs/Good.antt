@@ -1,38 +1,25 @@
 -- What every good settings record ensures: dit, dah, speed, dit estimate and learning stay in their ranges. Assumes nothing.
-use mathlib.Core.Path.{_≡_, refl, sym, ap, _∙_, subst}
 use mathlib.Core.Bool.{Bool, true, false, not, _&&_, cond}
 use lib.Dec.{T, not-T}
 use lib.Ieee.{Float, binary32, add, sub, mul, div, neg, le, lt, isNan, fits, ofBits}
-use lib.Ieee.Fits.{and-l, and-r}
 use lib.Ieee.Scale.{finite}
 use lib.Ieee.Positive.{positive, between, positive-finite}
 use Rattle.ranges.specs.Interval.{In, within}
 use Rattle.ranges.specs.Limits.{nought, durationMin, durationMax, dahMin, dahMax, idealRatio, paris, speedWeight, half, biasCap}
-use Rattle.ranges.specs.Settings.{Settings, Good, Limited}
+use Rattle.ranges.specs.Settings.{Settings, Good, Limited, ratioLeast, ratioMost, ratioMiddle, ditLeast, ditMost, weightLeast, weightMost}
 use Rattle.ranges.specs.Clamp.{clamp}
 use Rattle.ranges.specs.Average.{average}
-use Rattle.ranges.proofs.Signed.{le-self, le-neg, le-trans-float, finite-number, neg-finite, positive-nonneg}
+use Rattle.ranges.proofs.Signed.{le-self, le-neg, le-trans-float, finite-number, neg-finite}
 use Rattle.ranges.proofs.Rounded.{sub-number, div-number, scaled-number}
 use Rattle.ranges.proofs.Monotone.{div-mono-left, div-anti-right}
-use Rattle.ranges.proofs.Interval.{in-finite, in-widen, scale-in, mul-in, div-in, zero-le-positive, neg-in}
+use Rattle.ranges.proofs.Interval.{in-finite, in-widen, scale-in, mul-in, div-in, zero-le-positive}
+use Rattle.ranges.proofs.Product.{zero-neg}
 use Rattle.ranges.proofs.Compare.{lt→le, nlt→le}
 use Rattle.ranges.proofs.Clamp.{clamp-in}
 use Rattle.ranges.proofs.Halves.{base}
 use Rattle.ranges.proofs.Average.{Weight, Data, average-in, average-positive}
 
--- ---- the widest limits that are good: ratio 2 to 8, dit 10 to 300, speed 4 to 120
-abbrev pub ratioLeast : Float
-ratioLeast = ofBits binary32 0x4000_0000
-
-abbrev pub ratioMost : Float
-ratioMost = ofBits binary32 0x4100_0000
-
-abbrev pub ditLeast : Float
-ditLeast = ofBits binary32 0x4120_0000
-
-abbrev pub ditMost : Float
-ditMost = ofBits binary32 0x4396_0000
-
+-- ---- the speeds of good dits: 4 to 120
 abbrev pub speedLeast : Float
 speedLeast = ofBits binary32 0x4080_0000
 
@@ -62,6 +49,11 @@ module _ (least most lo hi : Float) (A : T (positive least)) (B : T (positive mo
       let Q = positive-finite hi limit-hi in
       clamp-in lo hi x (finite-number lo P) (finite-number hi Q) n (le-self lo P) (le-self hi Q) (lt→le lo hi (L .rising))
 
+-- 3.0 lies between limits of which one is at most, one at least the middle
+ideal-wide : (lo hi : Float) → T (le lo ratioMiddle) → T (le ratioMiddle hi) → In lo hi idealRatio
+unfolding le ofBits
+ideal-wide lo hi p q = (le-trans-float lo ratioMiddle idealRatio p tt, le-trans-float idealRatio ratioMiddle hi tt q)
+
 ratio-ends : T (positive ratioLeast) × T (positive ratioMost)
 unfolding ofBits
 ratio-ends = (tt, tt)
@@ -88,6 +80,13 @@ old-dah d x i p r =
     (le-trans-float (div binary32 dahMax ditMost) (div binary32 dahMax d) q (div-anti-right binary32 dahMax d ditMost tt D tt (i .1)) (div-mono-left binary32 dahMax x d tt p D (lt→le dahMax x h)))
     (r .1) in
     (nlt→le x dahMin (finite-number x p) tt (not-T (lt x dahMin) low), nlt→le dahMax x tt (finite-number x p) (not-T (lt dahMax x) high))
+
+-- dit * dah, whose root is the boundary
+wide-product : (d h : Float) → In ditLeast ditMost d → In dahMin dahMax h → T (positive (mul binary32 d h))
+unfolding ofBits mul
+wide-product d h i j =
+    let k = mul-in binary32 ditLeast ditMost d dahMin dahMax h tt tt tt tt i j in
+    between (mul binary32 ditLeast dahMin) (mul binary32 d h) (mul binary32 ditMost dahMax) tt tt (k .0) (k .1)
 
 -- 1200 / dit
 wide-speed : (d : Float) → In ditLeast ditMost d → In speedLeast speedMost (div binary32 paris d)
@@ -145,13 +144,9 @@ paris-finite : T (finite paris)
 unfolding ofBits
 paris-finite = tt
 
-zero-neg : T (le (neg nought) nought)
-unfolding neg le
-zero-neg = tt
-
-weighted : (w : Float) → In (ofBits binary32 0x3c80_0000) (ofBits binary32 0x3f00_0000) w → Weight w
-unfolding ofBits
-weighted w i = record { above = between (ofBits binary32 0x3c80_0000) w half tt tt (i .0) (i .1); most = i .1 }
+weighted : (w : Float) → In weightLeast weightMost w → Weight w
+unfolding ofBits le
+weighted w i = record { above = between weightLeast w weightMost tt tt (i .0) (i .1); most = le-trans-float w weightMost half (i .1) tt }
 
 -- x clamped to -c .. c, for a c above zero, is finite
 capped-finite : (c x : Float) → T (positive c) → T (not (isNan x)) → T (finite (clamp (neg c) c x))
@@ -183,7 +178,7 @@ module _ (s : Settings) (G : Good s) where
   ratio-wide = limited-wide ratioLeast ratioMost (s .ratioMin) (s .ratioMax) (ratio-ends .0) (ratio-ends .1) (G .ratio)
 
   pub ideal-in : In (s .ratioMin) (s .ratioMax) idealRatio
-  ideal-in = (G .ratioLow, G .ratioHigh)
+  ideal-in = ideal-wide (s .ratioMin) (s .ratioMax) (G .ratioLow) (G .ratioHigh)
 
   -- ---- the dah after the constraints: made anew, kept, or either
   pub dah-anew-in : (d h : Float) → In (s .ditMin) (s .ditMax) d → In (s .ratioMin) (s .ratioMax) h → In dahMin dahMax (mul binary32 h d)
@@ -200,6 +195,9 @@ module _ (s : Settings) (G : Good s) where
       go true true k = k tt tt
       go true false k = dah-anew-in d h i j
       go false b k = dah-anew-in d h i j
+
+  pub product-positive : (d h : Float) → In (s .ditMin) (s .ditMax) d → In dahMin dahMax h → T (positive (mul binary32 d h))
+  product-positive d h i j = wide-product d h (dit-wide d i) j
 
   -- ---- speed and dit estimate
   pub speed-in : (d : Float) → In (s .ditMin) (s .ditMax) d → In speedLeast speedMost (div binary32 paris d)

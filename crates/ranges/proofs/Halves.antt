@@ -1,18 +1,17 @@
 -- Half of a value of a format is a value of the format, where it is not too small; and two values that are not too small are so far apart that their distance can be halved. Assumes nothing.
-use mathlib.Core.Path.{_≡_, refl, sym, ap, _∙_, subst}
-use mathlib.Core.Logic.{_⊎_, inl, inr}
-use mathlib.Core.Bool.{Bool, true, false, not}
+use mathlib.Core.Path.{_≡_, refl, sym, ap, _∙_}
+use mathlib.Core.Logic.{inl, inr}
+use mathlib.Core.Bool.{true, false}
 use Prim.Native.Nat.{ℕ, zero, suc, _+_, _-_, _*_, _^_, _≤_, _<_}
-use native.Mathlib.Nat.{le-trans, le-of-eq, le-of-lt, lt-of-not-le, not-le-of-lt, mul-one, one-mul, mul-comm, mul-assoc, mul-left-comm, mul-le-mul-right, mul-le-mul-left, mul-lt-mul-of-pos-right, lt-of-mul-lt-mul-right, le-of-mul-le-mul-right, mul-pos, pow-suc, zero-lt-suc, lt-irrefl}
+use native.Mathlib.Nat.{le-trans, le-of-eq, lt-of-not-le, not-le-of-lt, mul-one, mul-comm, mul-assoc, mul-le-mul-right, mul-lt-mul-of-pos-right, lt-of-mul-lt-mul-right, le-of-mul-le-mul-right, mul-pos, pow-suc, zero-lt-suc}
 use native.Mathlib.Omega.{arith}
-use lib.IntN.{ℤ, pos, negsuc}
+use lib.IntN.{pos, negsuc}
 use lib.Dec.{T, leb, leb→le, nleb→lt, ltb→lt, lit≤, lit<}
 use lib.Pow.{pow-pos, pow-add, pow-mono}
-use lib.Ieee.{Float, nan, inf, fin, Format, binary32, binary64, prec, low, emax, up, down, add, sub, mul, neg, round, le, lt, isNan, fits}
-use lib.Ieee.Fits.{down-pos, up-pos, round-fits, sub-fits}
+use lib.Ieee.{Float, nan, inf, fin, Format, binary32, binary64, prec, low, emax, up, down, sub, round, le, lt, fits}
+use lib.Ieee.Fits.{up-pos, round-fits, sub-fits}
 use lib.Ieee.Exact.{HasValue}
-use lib.Ieee.Scale.{finite}
-use lib.Ieee.Positive.{num, den, positive, den-pos, between, positive-finite, positive-of-value, value-pos, own-value, value→cross, above-of-le}
+use lib.Ieee.Positive.{num, den, positive, den-pos, between, positive-finite, positive-of-value, value-pos, own-value, value→cross}
 use Rattle.ranges.proofs.Signed.{ps, ng, flat, le→signed, positive-ng}
 use Rattle.ranges.proofs.Rounded.{Rounded, rounded-mono, sub-rounded}
 use Rattle.ranges.proofs.Own.{exact, fits-parts, own-rounded}

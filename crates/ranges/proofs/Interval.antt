@@ -1,18 +1,16 @@
 -- Interval arithmetic: where the arguments lie in intervals, the result lies in the interval of the rounded ends. Over both signs, in both formats. Assumes nothing.
-use mathlib.Core.Path.{_≡_, refl, sym, ap, _∙_, subst}
-use Prim.Native.Nat.{ℕ, zero, suc, _+_, _*_, _≤_, _<_}
-use native.Mathlib.Nat.{mul-pos, mul-le-mul-right}
+use Prim.Native.Nat.{ℕ, _+_, _*_, _≤_}
+use native.Mathlib.Nat.{mul-le-mul-right}
 use native.Mathlib.Omega.{arith}
-use mathlib.Core.Bool.{Bool, true, false, not}
-use lib.IntN.{ℤ, pos}
-use lib.Dec.{T, lt→ltb}
-use lib.Ieee.{Float, nan, inf, fin, Format, up, down, neg, add, sub, mul, div, le, lt, isNan, fits}
+use mathlib.Core.Bool.{true, false}
+use lib.Dec.{T}
+use lib.Ieee.{Float, nan, inf, fin, Format, neg, add, sub, mul, div, le, fits}
 use lib.Ieee.Fits.{neg-fits}
 use lib.Ieee.Scale.{finite}
-use lib.Ieee.Positive.{den, positive, den-pos, positive-finite, between, mul-mono}
+use lib.Ieee.Positive.{den, positive, positive-finite, between, mul-mono}
 use Rattle.ranges.specs.Interval.{In}
 use Rattle.ranges.specs.Limits.{nought}
-use Rattle.ranges.proofs.Signed.{ps, ng, flat, le→signed, signed→le, le-neg, le-trans-float, nonneg, nonneg-finite, positive-nonneg, positive-ng, neg-finite, neg-ps, neg-ng, neg-den}
+use Rattle.ranges.proofs.Signed.{ps, ng, flat, le→signed, signed→le, le-neg, le-trans-float, nonneg, positive-nonneg, positive-ng, neg-finite, neg-ps, neg-ng, neg-den}
 use Rattle.ranges.proofs.Rounded.{Rounded, rounded-mono, add-rounded, sub-rounded}
 use Rattle.ranges.proofs.Monotone.{add-mono, sub-mono, mul-mono-right, div-mono-left, div-anti-right}
 use Rattle.ranges.proofs.Own.{own-rounded}

@@ -13,5 +13,6 @@ pub mod Average
 pub mod Mean
 pub mod Score
 pub mod Good
+pub mod Durations
 pub mod Classes
 pub mod Standard

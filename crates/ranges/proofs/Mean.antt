@@ -1,27 +1,25 @@
 -- The mean of 1 to 12 entries of a range, summed in f64, lies in the range, and so does its nearest f32; the variance about a value of the range is finite and not below zero. Assumes nothing.
 use mathlib.Core.Path.{_≡_, refl, sym, ap, _∙_, subst}
 use mathlib.Core.List.{List, [], _∷_, _++_, map}
-use mathlib.Core.Logic.{_⊎_, inl, inr}
-use mathlib.Core.Bool.{Bool, true, false, not, _&&_}
+use mathlib.Core.Logic.{inl, inr}
+use mathlib.Core.Bool.{Bool, true, false, _&&_}
 use Prim.Native.Nat.{ℕ, zero, suc, _+_, _^_, _≤_, _<_}
-use native.Mathlib.Nat.{le-trans, le-of-suc-le-suc, eq-or-lt-of-le, not-suc-le-zero, add-suc, suc-add, add-zero, zero-add}
-use native.Mathlib.Numerals.{add-one}
+use native.Mathlib.Nat.{le-trans, le-of-suc-le-suc, eq-or-lt-of-le, not-suc-le-zero, suc-add, add-zero, zero-add}
 use native.Mathlib.Omega.{arith}
 use lib.IntN.{pos}
 use lib.Dec.{T, le→leb, lit≤}
 use lib.ListN.{length, take, getD}
-use lib.Ieee.{Float, nan, fin, binary32, binary64, add, sub, mul, div, neg, le, ofInt, ofBits, fits, isNan, inFloat}
+use lib.Ieee.{Float, nan, fin, binary64, add, sub, mul, div, neg, le, ofInt, ofBits, fits, inFloat}
 use lib.Ieee.Fits.{and-l, and-r}
 use lib.Ieee.Scale.{finite}
 use lib.Ieee.Positive.{positive}
-use Rattle.numbers.specs.Values.{narrow}
 use Rattle.ranges.specs.Interval.{In, AllIn}
 use Rattle.ranges.specs.Limits.{nought, durationMin, durationMax}
-use Rattle.ranges.specs.Mean.{sumFrom, count, mean64, meanOf, squareOff, squaresFrom, varianceAbout}
-use Rattle.ranges.proofs.Signed.{nonneg, finite-number}
+use Rattle.ranges.specs.Mean.{sumFrom, mean64, meanOf, squareOff, squaresFrom, varianceAbout}
 use Rattle.ranges.proofs.Interval.{add-in, sub-in, over-in, in-widen, in-finite}
 use Rattle.ranges.proofs.Product.{square-in}
 use Rattle.ranges.proofs.Narrow.{narrow-between}
+pub use Rattle.ranges.proofs.Durations.{duration-number}
 
 -- ---- a test at each number below n
 unfoldable upto : ℕ → (ℕ → Bool) → Bool
@@ -196,11 +194,7 @@ all-at lo hi [] i m h = absurd (not-suc-le-zero h)
 all-at lo hi (x ∷ xs) zero m h = m .0
 all-at lo hi (x ∷ xs) (suc i) m h = all-at lo hi xs i (m .1) (le-of-suc-le-suc h)
 
--- what the casts of such a loop ask
-pub duration-number : (x : Float) → In durationMin durationMax x → T (not (isNan x))
-unfolding ofBits
-duration-number x i = finite-number x (in-finite durationMin durationMax x tt tt i)
-
+-- the cast of such a count
 pub short-in : (n : ℕ) → n ≤ 12 → T (inFloat binary64 (pos n))
 unfolding inFloat
 short-in n h = le→leb n (2 ^ 53) (le-trans h (lit≤ tt))

@@ -1,5 +1,5 @@
 -- f64 to f32 keeps the order, and leaves an f32 as it is. Assumes nothing.
-use mathlib.Core.Path.{_≡_, refl, sym, ap₂, subst}
+use mathlib.Core.Path.{_≡_, refl, sym}
 use mathlib.Core.Bool.{true, false}
 use Prim.Native.Nat.{_*_}
 use native.Mathlib.Omega.{arith}

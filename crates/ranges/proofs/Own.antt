@@ -1,21 +1,21 @@
 -- Two values of a format that are the same signed number are the same value; a value of the format is its own rounding. Assumes nothing.
 use mathlib.Core.Path.{_≡_, refl, sym, ap, _∙_, subst}
 use Prim.Native.Nat.{ℕ, zero, suc, _+_, _-_, _*_, _/_, _%_, _^_, _≤_, _<_}
-use native.Mathlib.Nat.{le-trans, le-of-eq, lt-of-lt-of-le, lt-of-not-le, not-le-of-lt, le-of-suc-le-suc, zero-mul, one-mul, mul-one, mul-comm, mul-assoc, mul-left-comm, mul-right-comm, mul-le-mul-right, mul-lt-mul-of-pos-right, lt-of-mul-lt-mul-right, mul-pos, zero-lt-suc}
+use native.Mathlib.Nat.{lt-of-not-le, not-le-of-lt, le-of-suc-le-suc, zero-mul, mul-one, mul-comm, mul-assoc, mul-left-comm, mul-right-comm, mul-lt-mul-of-pos-right, lt-of-mul-lt-mul-right, mul-pos, zero-lt-suc}
 use native.Mathlib.Omega.{arith}
-use mathlib.Core.Bool.{Bool, true, false, not, _&&_, cond, true≢false, false≢true}
+use mathlib.Core.Bool.{Bool, true, false, _&&_, cond}
 use lib.IntN.{ℤ, pos, negsuc}
-use lib.Dec.{T, ltb, leb, eqb, eqb→eq, ltb→lt, leb→le}
+use lib.Dec.{T, ltb, leb, eqb, ltb→lt, leb→le}
 use lib.Pow.{pow-pos, pow-add, pow-lt}
 use lib.Ieee.{Float, nan, inf, fin, Format, prec, emax, low, up, down, size, round, fits, top, hid, toBits, ofBits}
-use lib.Ieee.Fits.{up-pos, down-pos, and-l, and-r, round-fits}
+use lib.Ieee.Fits.{down-pos, and-l, and-r, round-fits}
 use lib.Ieee.Exact.{HasValue, round-exact}
 use lib.Ieee.Nearest.{div-same}
 use lib.Ieee.Bits.{ofBits-toBits}
 use lib.Ieee.Scale.{finite}
-use lib.Ieee.Positive.{num, den, positive, den-pos}
+use lib.Ieee.Positive.{den}
 use Rattle.ranges.proofs.Signed.{ps, ng}
-use Rattle.ranges.proofs.Rounded.{Rounded, Diff}
+use Rattle.ranges.proofs.Rounded.{Rounded}
 
 abbrev pub pack : Format → Bool → ℕ → ℕ
 pack f s n = cond s (top f) 0 + (size n - prec f) * hid f + n / 2 ^ (size n - prec f)

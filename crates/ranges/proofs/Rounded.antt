@@ -1,20 +1,19 @@
 -- Rounding is monotone over signed fractions: `Rounded f z p n c` says that z is (p - n) / c rounded to the format f. Each operation on finite values is one. Assumes nothing.
 use mathlib.Core.Path.{_≡_, refl, sym, ap, _∙_, subst}
-use mathlib.Core.Logic.{_⊎_, inl, inr}
 use Prim.Native.Nat.{ℕ, zero, suc, _+_, _-_, _*_, _^_, _≤_, _<_}
-use native.Mathlib.Nat.{le-trans, le-of-eq, le-of-lt, lt-of-lt-of-le, eq-or-lt-of-le, eq-zero-or-pos, zero-mul, add-mul, mul-add, mul-comm, mul-assoc, mul-left-comm, mul-le-mul-right, le-of-mul-le-mul-right, mul-pos, zero-lt-suc, lt-irrefl, eq-of-mul-eq-mul-right}
+use native.Mathlib.Nat.{zero-mul, mul-pos, lt-irrefl, eq-of-mul-eq-mul-right}
 use native.Mathlib.Omega.{arith}
-use mathlib.Core.Bool.{Bool, true, false, not, _&&_, _||_, Bool·beq, cond, true≢false, false≢true}
-use lib.IntN.{ℤ, pos, negsuc}
-use lib.Dec.{T, ltb, leb, eqb, eqb→eq, ltb→lt, lt→ltb, nltb→le, eqb-refl, not-T, eqb·suc-zero}
+use mathlib.Core.Bool.{Bool, true, false, not, Bool·beq, cond, true≢false, false≢true}
+use lib.IntN.{ℤ}
+use lib.Dec.{T, ltb, eqb, ltb→lt, nltb→le, eqb·suc-zero}
 use lib.Pow.{pow-pos}
-use lib.Ieee.{Float, nan, inf, fin, Format, prec, emax, low, unlike, up, down, odd, units, round, neg, sum, add, sub, mul, div, le, lt, eq, isNan, fits}
-use lib.Ieee.Fits.{up-pos, down-pos, and-i, and-l, and-r, eq→eqb, round-is}
+use lib.Ieee.{Float, nan, inf, fin, Format, prec, emax, low, unlike, up, down, odd, units, round, neg, sum, add, sub, mul, div, le, isNan}
+use lib.Ieee.Fits.{up-pos, down-pos, round-is}
 use lib.Ieee.Exact.{HasValue, round-exact}
 use lib.Ieee.Order.{round-mono}
 use lib.Ieee.Scale.{finite}
-use lib.Ieee.Positive.{num, den, positive, den-pos, first-pos, positive-finite}
-use Rattle.ranges.proofs.Signed.{ps, ng, Cross, from-signs, signed→le, le→signed, le-neg, neg-neg, neg-finite, neg-ps, neg-ng, neg-den, nonneg, nonneg-finite, nonneg-ng}
+use lib.Ieee.Positive.{den, positive, positive-finite}
+use Rattle.ranges.proofs.Signed.{ps, ng, from-signs, signed→le, le-neg, neg-neg, neg-finite, neg-ps, neg-ng, neg-den, nonneg, nonneg-finite, nonneg-ng}
 
 -- ---- `round`'s sign, and its negation
 abbrev Sign : Bool → Float → Type 0

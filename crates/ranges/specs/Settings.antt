@@ -26,24 +26,52 @@ standard = record {
 
 -- ---- good, as 02's Req 09 says it
 
--- both limits lie from least to most, and rise
+-- ratio limits from 2 to 8
+abbrev pub ratioLeast : Float
+ratioLeast = ofBits binary32 0x4000_0000
+
+abbrev pub ratioMost : Float
+ratioMost = ofBits binary32 0x4100_0000
+
+-- the lower at most 3 and the upper at least 3
+abbrev pub ratioMiddle : Float
+ratioMiddle = ofBits binary32 0x4040_0000
+
+-- dit limits from 10 to 300
+abbrev pub ditLeast : Float
+ditLeast = ofBits binary32 0x4120_0000
+
+abbrev pub ditMost : Float
+ditMost = ofBits binary32 0x4396_0000
+
+-- weight from 1/64 to 1/2
+abbrev pub weightLeast : Float
+weightLeast = ofBits binary32 0x3c80_0000
+
+abbrev pub weightMost : Float
+weightMost = ofBits binary32 0x3f00_0000
+
+-- lead and prune from 1 to 20
+abbrev pub leadLeast : Float
+leadLeast = ofBits binary32 0x3f80_0000
+
+abbrev pub leadMost : Float
+leadMost = ofBits binary32 0x41a0_0000
+
+-- two limits from least to most, rising
 pub record Limited (least most lo hi : Float) : Type 0 where
   pub from : T (le least lo)
   pub upto : T (le hi most)
   pub rising : T (lt lo hi)
 
 pub record Good (s : Settings) : Type 0 where
-  -- ratio limits from 2 to 8, rising, the lower at most 3 and the upper at least 3
-  pub ratio : Limited (ofBits binary32 0x4000_0000) (ofBits binary32 0x4100_0000) (s .ratioMin) (s .ratioMax)
-  pub ratioLow : T (le (s .ratioMin) (ofBits binary32 0x4040_0000))
-  pub ratioHigh : T (le (ofBits binary32 0x4040_0000) (s .ratioMax))
-  -- dit limits from 10 to 300, rising
-  pub dit : Limited (ofBits binary32 0x4120_0000) (ofBits binary32 0x4396_0000) (s .ditMin) (s .ditMax)
-  -- weight from 1/64 to 1/2
-  pub weightIn : In (ofBits binary32 0x3c80_0000) (ofBits binary32 0x3f00_0000) (s .weight)
-  -- lead and prune from 1 to 20
-  pub leadIn : In (ofBits binary32 0x3f80_0000) (ofBits binary32 0x41a0_0000) (s .lead)
-  pub pruneIn : In (ofBits binary32 0x3f80_0000) (ofBits binary32 0x41a0_0000) (s .prune)
+  pub ratio : Limited ratioLeast ratioMost (s .ratioMin) (s .ratioMax)
+  pub ratioLow : T (le (s .ratioMin) ratioMiddle)
+  pub ratioHigh : T (le ratioMiddle (s .ratioMax))
+  pub dit : Limited ditLeast ditMost (s .ditMin) (s .ditMax)
+  pub weightIn : In weightLeast weightMost (s .weight)
+  pub leadIn : In leadLeast leadMost (s .lead)
+  pub pruneIn : In leadLeast leadMost (s .prune)
 
 -- the seven are values of f32
 pub record Held (s : Settings) : Type 0 where
