@@ -110,7 +110,7 @@ place L m e h =
     back x y g = omega arith
 
 -- ---- a value of the format, in units: n * 2 ^ j with n below 2 ^ prec
-abbrev Short : Format → ℕ → Type 0
+abbrev pub Short : Format → ℕ → Type 0
 Short f b = (n : ℕ) × (j : ℕ) × (n < 2 ^ prec f) × (b ≡ n * 2 ^ j)
 
 short : (f : Format) (y : Float) → T (fits f y) → T (finite y) → Short f (unitsOf f y)
@@ -523,9 +523,46 @@ module _ (f : Format) (m : ℕ) (e : ℤ) (H : Held f m e) where
           sum : (x : ℕ) → b < x → b + u ≤ x + u
           sum x j = omega arith
 
-rooted-fits : (f : Format) (m : ℕ) (e : ℤ) → T (fits f (rootOf f m e))
+pub rooted-fits : (f : Format) (m : ℕ) (e : ℤ) → T (fits f (rootOf f m e))
 unfolding rootOf
 rooted-fits f m e = round-fits f false (2 * floorRoot (squareUnits f m e) + cond (eqb (floorRoot (squareUnits f m e) * floorRoot (squareUnits f m e)) (squareUnits f m e)) 0 1) (2 ^ (low f + 1))
+
+-- ---- the root in units, for laws on whole numbers
+module _ (f : Format) (m : ℕ) (e : ℤ) (F : T (fits f (fin false (suc m) e))) where
+  pub root-value : HasValue (rootOf f (suc m) e) false (unitsOf f (rootOf f (suc m) e)) (2 ^ low f)
+  root-value = let H = held-of f false m e F in subst (λ (x : ℕ). HasValue (rootOf f (suc m) e) false x (2 ^ low f)) (sym (a-is f (suc m) e H)) (value f (suc m) e H)
+
+  finite-root : (x : Float) (a : ℕ) → HasValue x false a (2 ^ low f) → T (finite x)
+  finite-root nan a h = absurd h
+  finite-root (inf s) a h = absurd h
+  finite-root (fin s n d) a h = tt
+
+  pub root-short : Short f (unitsOf f (rootOf f (suc m) e))
+  root-short = short f (rootOf f (suc m) e) (rooted-fits f (suc m) e) (finite-root (rootOf f (suc m) e) _ root-value)
+
+  pub root-best : (b : ℕ) → Short f b → Nearer (squareUnits f (suc m) e) (unitsOf f (rootOf f (suc m) e)) b
+  root-best b s = let H = held-of f false m e F in subst (λ (x : ℕ). Nearer (squareUnits f (suc m) e) x b) (sym (a-is f (suc m) e H)) (best f (suc m) e H b s)
+
+  -- the square is a whole number of units
+  pub units-whole : squareUnits f (suc m) e * down e ≡ suc m * up e * 2 ^ (2 * low f)
+  units-whole =
+      let H = held-of f false m e F in
+      let g : fall e ≤ 2 * low f = twice (fall e) (low f) (pow-le-back (fall e) (low f) (subst (λ (x : ℕ). x ≤ 2 ^ low f) (down-is e) (H .2))) in
+      ap (λ (x : ℕ). x * down e) (place (2 * low f) (suc m) e g) ∙ placed g
+    where
+      twice : (x y : ℕ) → x ≤ y → x ≤ 2 * y
+      twice x y h = omega arith
+
+      back : (x y z : ℕ) → z ≤ y → x + y - z + z ≡ x + y
+      back x y z h = omega arith
+
+      placed : fall e ≤ 2 * low f → suc m * 2 ^ (rise e + 2 * low f - fall e) * down e ≡ suc m * up e * 2 ^ (2 * low f)
+      placed g =
+          ap (λ (x : ℕ). suc m * 2 ^ (rise e + 2 * low f - fall e) * x) (down-is e)
+          ∙ mul-assoc (suc m) (2 ^ (rise e + 2 * low f - fall e)) (2 ^ fall e)
+          ∙ ap (λ (x : ℕ). suc m * x) (sym (pow-add 2 (rise e + 2 * low f - fall e) (fall e)) ∙ ap (λ (x : ℕ). 2 ^ x) (back (rise e) (2 * low f) (fall e) g) ∙ pow-add 2 (rise e) (2 * low f))
+          ∙ sym (mul-assoc (suc m) (2 ^ rise e) (2 ^ (2 * low f)))
+          ∙ ap (λ (x : ℕ). suc m * x * 2 ^ (2 * low f)) (sym (up-is e))
 
 -- ---- the theorem
 pub root-is-nearest : (f : Format) (m : ℕ) (e : ℤ) → T (fits f (fin false (suc m) e)) → NearestRoot f (suc m) e (rootOf f (suc m) e)

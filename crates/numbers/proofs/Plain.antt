@@ -1,16 +1,17 @@
 -- Which values pass the tests of the code: finite and above zero, and what has a root. Assumes nothing.
 use mathlib.Core.Path.{_≡_, refl, sym, ap, _∙_, subst}
 use mathlib.Core.Bool.{Bool, true, false, not, _&&_, _||_, Bool·beq, cond, true≢false, false≢true}
-use Prim.Native.Nat.{ℕ, zero, suc, _+_, _*_, _≤_, _<_}
-use native.Mathlib.Nat.{lt-irrefl, lt-of-lt-of-le, mul-one, zero-mul, mul-pos, zero-lt-suc}
+use Prim.Native.Nat.{ℕ, zero, suc, _+_, _*_, _%_, _≤_, _<_}
+use native.Mathlib.Nat.{le-trans, mod-le, lt-irrefl, lt-of-lt-of-le, mul-one, zero-mul, mul-pos, zero-lt-suc}
 use native.Mathlib.Omega.{arith}
 use lib.Dec.{T, ltb, eqb}
 use lib.IntN.{ℤ, pos}
-use lib.Ieee.{Float, nan, inf, fin, Format, binary32, binary64, up, down, fits, isNan, nanBits, ofBits, lt, eq, le, neg, div}
+use lib.Ieee.{Float, nan, inf, fin, Format, binary32, binary64, up, down, fits, isNan, hid, ones, top, nanBits, ofBits, lt, eq, le, neg, div}
+use lib.Ieee.Bits.{nanBits-above}
 use lib.Ieee.Fits.{and-i, fits-widens, up-pos}
 use lib.Ieee.Scale.{finite}
 use lib.Ieee.Positive.{positive}
-use borrow.Author.Tests.{lt-ltb, ltb-true, ltb-false, eq-eqb, ne-eqb, eqb-true}
+use borrow.Author.Tests.{lt-ltb, le-ltb, ltb-true, ltb-false, eq-eqb, ne-eqb, eqb-true}
 use Rattle.numbers.specs.Answers.{value, refused}
 use Rattle.numbers.specs.Log.{lnOf, lnSaid}
 use Rattle.numbers.specs.Root.{rootless, sqrtOf, sqrtSaid}
@@ -39,6 +40,20 @@ top32-number = tt
 pub top64-number : T (not (nanBits binary64 0x7ff0_0000_0000_0000))
 unfolding nanBits
 top64-number = tt
+
+-- a pattern up to the infinity's is no NaN's
+pub number-bits : (f : Format) (n : ℕ) → n ≤ ones f * hid f → T (not (nanBits f n))
+number-bits f n h = subst (λ (b : Bool). T (not b)) (sym (nanBits-above f n ∙ le-ltb (ones f * hid f) (n % top f) (le-trans (mod-le n (top f)) h))) tt
+
+-- what is above zero is a number
+number-at : (v : Float) → lt origin v ≡ true → T (not (isNan v))
+unfolding lt isNan
+number-at nan h = absurd (false≢true h)
+number-at (inf s) h = tt
+number-at (fin s m e) h = tt
+
+pub above-number : (f : Format) (v : Float) → lt (ofBits f 0) v ≡ true → T (not (isNan v))
+above-number f v h = number-at v (ap (λ (x : Float). lt x v) (sym (zero-is f)) ∙ h)
 
 -- ---- finite and above zero
 abbrev pub Plain : Float → Type 0

@@ -1,12 +1,13 @@
 // The logarithm and the roots as the layers above call them, which know what they hand in.
 use crate::log::log_digits;
+use crate::root::pattern_below;
 use crate::root::positive_root32;
 use crate::root::positive_root64;
 use crate::rounding::ratio32;
 use crate::rounding::take_apart;
 ghost use mathlib.Core.Path.{_≡_};
 ghost use lib.Dec.{T};
-ghost use lib.Ieee.{binary32, binary64};
+ghost use lib.Ieee.{binary32, binary64, lt};
 ghost use lib.Ieee.Positive.{positive};
 ghost use Rattle.numbers.specs.Log.{lnOf};
 ghost use Rattle.numbers.specs.Root.{sqrtOf};
@@ -57,4 +58,18 @@ pub fn root64(v: f64) -> f64
         return v;
     }
     0.0 / 0.0
+}
+
+// Whether x is below the root of v, both finite and above zero: Rust's `x < v.sqrt()`, mostly with no root taken.
+pub fn below_root(x: f32, v: f32) -> bool
+    requires { ⌜ T (positive x) × T (positive v) ⌝ }
+    ensures { λ r. ⌜ r ≡ lt x (sqrtOf binary32 v) ⌝ }
+{
+    let c = f32::to_bits(x);
+    if 0x0080_0000 <= c {
+        if c < 0x7f00_0000 {
+            return pattern_below(c, v);
+        }
+    }
+    x < root32(v)
 }

@@ -14,7 +14,7 @@ use Rattle.ranges.specs.Clamp.{clamp}
 use Rattle.ranges.specs.Average.{average}
 use Rattle.ranges.specs.Mean.{mean64, varianceAbout}
 use Rattle.numbers.specs.Root.{sqrtOf}
-use Rattle.numbers.specs.Order.{abs}
+use Rattle.order.specs.Order.{abs}
 use Rattle.tracker.specs.Constants.{one, two, three, dahGapFrac, cvMax, offFrac}
 use Rattle.tracker.specs.declared.RingEntry.{RingEntry}
 use Rattle.tracker.specs.Model.{Pair, Tracker, withCentroids, withConfirmed, withPlaceholder, withPair, withRing, withWpm, withRecent, withEgap, withHint, withRegime, withRecovered, withUncorroborated, pushed, all}

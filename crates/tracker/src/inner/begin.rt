@@ -5,7 +5,7 @@ use crate::SpeedTracker;
 use crate::inner::lock::initialize;
 use crate::inner::speed::bound;
 use crate::inner::speed::timed;
-use numbers::order::clamp32;
+use order::clamp32;
 ghost use mathlib.Core.Path.{_≡_};
 ghost use lib.Dec.{T};
 ghost use lib.Ieee.Positive.{positive};

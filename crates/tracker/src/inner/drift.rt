@@ -4,7 +4,7 @@ use crate::SpeedTracker;
 use crate::inner::sort::sorted;
 use crate::inner::sums::deviation;
 use crate::inner::sums::mean_wide;
-use numbers::order::abs64;
+use order::abs64;
 ghost use mathlib.Core.Path.{_≡_};
 ghost use mathlib.Core.Bool.{true, false, not};
 ghost use lib.Dec.{T};

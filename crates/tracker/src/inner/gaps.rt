@@ -1,6 +1,6 @@
 // Hints and element gaps.
 use crate::SpeedTracker;
-use numbers::order::clamp32;
+use order::clamp32;
 use ranges::is_finite;
 ghost use mathlib.Core.Path.{_≡_};
 ghost use lib.Dec.{T};

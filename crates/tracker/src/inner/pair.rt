@@ -2,7 +2,7 @@
 use crate::ClusterPair;
 use crate::inner::lock::initialize;
 use numbers::inner::root32;
-use numbers::order::clamp32;
+use order::clamp32;
 use ranges::within;
 ghost use mathlib.Core.Path.{_≡_};
 ghost use mathlib.Core.Bool.{true, false};

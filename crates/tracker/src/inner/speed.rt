@@ -1,7 +1,7 @@
 // The dit estimate, the speed and its average, and the constraints of a tracker.
 use crate::SpeedTracker;
 use crate::inner::pair::constrain;
-use numbers::order::clamp32;
+use order::clamp32;
 ghost use mathlib.Core.Path.{_≡_};
 ghost use Rattle.ranges.specs.Settings.{standard};
 ghost use Rattle.tracker.specs.Model.{held, view};

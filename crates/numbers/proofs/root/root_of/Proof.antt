@@ -8,10 +8,6 @@ use Rattle.numbers.proofs.RootLaws.{sh, z-ge, z-le, large, small, shl-i
 use borrow.Author.Needs.{needs}
 use Rattle.numbers.proofs.root.root_of.Statement.{statement}
 use Rattle.numbers.proofs.root.root_of.Tie as tie
-use Rattle.numbers.proofs.root.root_of.Reads as reads
-use Rattle.numbers.proofs.root.root_of.Lts as lts
-use Rattle.numbers.proofs.root.any.Reads as any-reads
-use Rattle.numbers.proofs.root.extract_root.Reads as extract-root-reads
 
 bit : (b : Bool) → cond b 0 1 ≤ 1
 bit true = lit≤ tt
@@ -23,14 +19,14 @@ add-sh c = let b = z-le (c .args .sig) (c .args .j) (c .pre .0) (c .pre .1) in o
 sub-sh : tie.Need-sub-sh
 sub-sh c = let b = z-ge (c .args .sig) (c .args .j) (c .pre .0) (c .pre .1) in omega arith
 
-cast-extract-root : tie.Need-cast-extract-root
-cast-extract-root c = let b = z-le (c .args .sig) (c .args .j) (c .pre .0) (c .pre .1) in omega arith
+cast-leading-root : tie.Need-cast-leading-root
+cast-leading-root c = let b = z-le (c .args .sig) (c .args .j) (c .pre .0) (c .pre .1) in omega arith
 
-shl-extract-root : tie.Need-shl-extract-root
-shl-extract-root c = let b = z-le (c .args .sig) (c .args .j) (c .pre .0) (c .pre .1) in omega arith
+shl-leading-root : tie.Need-shl-leading-root
+shl-leading-root c = let b = z-le (c .args .sig) (c .args .j) (c .pre .0) (c .pre .1) in omega arith
 
-extract-root-requires : tie.Need-extract-root-requires
-extract-root-requires c κs = search needs
+leading-root-requires : tie.Need-leading-root-requires
+leading-root-requires c κs = search needs
 
 mul-w : tie.Need-mul-w
 mul-w c = search needs
@@ -39,7 +35,7 @@ any-requires : tie.Need-any-requires
 any-requires c κs = search needs
 
 add-w : tie.Need-add-w
-add-w c = let q = c .before .before .extract-root .ensures .small in let t = bit (eqb (c .before .before .extract-root .result .rest) 0) in let e = c .any .ensures in omega arith
+add-w c = let q = c .before .before .leading-root .ensures .small in let t = bit (eqb (c .before .before .leading-root .result .rest) 0) in let e = c .any .ensures in omega arith
 
 add-half : tie.Need-add-half
 add-half c = search needs
@@ -53,7 +49,7 @@ cast-t13 c = search needs
 returns : tie.Need-returns
 returns c =
     let s = c .before .before .before in
-    let x = c .before .before .extract-root in
+    let x = c .before .before .leading-root in
     record {
       sh = sh (s .args .sig) (s .args .j) (s .pre .0) (s .pre .1);
       q = x .result .q;
@@ -72,9 +68,9 @@ root-of-spec =
     (tie.spec
     add-sh
     sub-sh
-    cast-extract-root
-    shl-extract-root
-    extract-root-requires
+    cast-leading-root
+    shl-leading-root
+    leading-root-requires
     mul-w
     any-requires
     add-w

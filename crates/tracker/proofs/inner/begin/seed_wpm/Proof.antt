@@ -16,7 +16,7 @@ use Rattle.tracker.proofs.inner.begin.seed_wpm.Statement.{statement}
 use Rattle.tracker.proofs.inner.begin.seed_wpm.Tie as tie
 use Rattle.tracker.proofs.inner.begin.seed_wpm.Reads as reads
 use Rattle.tracker.proofs.inner.begin.seed_wpm.Lts as lts
-use Rattle.numbers.proofs.order.clamp32.Reads as clamp32-reads
+use Rattle.order.proofs.clamp32.Reads as clamp32-reads
 use Rattle.tracker.proofs.inner.begin.seed_pair.Reads as seed-pair-reads
 use Rattle.tracker.proofs.inner.speed.timed.Reads as timed-reads
 

@@ -4,7 +4,7 @@ use Rattle.tracker.proofs.inner.drift.offset.Statement.{statement}
 use Rattle.tracker.proofs.inner.drift.offset.Tie as tie
 use Rattle.tracker.proofs.inner.drift.offset.Reads as reads
 use Rattle.tracker.proofs.inner.drift.offset.Lts as lts
-use Rattle.numbers.proofs.order.abs64.Reads as abs64-reads
+use Rattle.order.proofs.abs64.Reads as abs64-reads
 
 -- src/inner/drift.rt:83:13
 float-to-float-w : tie.Need-float-to-float-w

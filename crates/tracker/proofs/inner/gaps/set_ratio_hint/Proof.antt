@@ -12,7 +12,7 @@ use Rattle.tracker.proofs.inner.gaps.set_ratio_hint.Statement.{statemen
 use Rattle.tracker.proofs.inner.gaps.set_ratio_hint.Tie as tie
 use Rattle.tracker.proofs.inner.gaps.set_ratio_hint.Reads as reads
 use Rattle.tracker.proofs.inner.gaps.set_ratio_hint.Lts as lts
-use Rattle.numbers.proofs.order.clamp32.Reads as clamp32-reads
+use Rattle.order.proofs.clamp32.Reads as clamp32-reads
 use Rattle.ranges.proofs.is_finite.Reads as is-finite-reads
 
 -- src/inner/gaps.rt:18:8

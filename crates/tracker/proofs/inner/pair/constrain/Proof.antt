@@ -6,7 +6,7 @@ use Rattle.tracker.proofs.inner.pair.constrain.Statement.{statement}
 use Rattle.tracker.proofs.inner.pair.constrain.Tie as tie
 use Rattle.tracker.proofs.inner.pair.constrain.Reads as reads
 use Rattle.tracker.proofs.inner.pair.constrain.Lts as lts
-use Rattle.numbers.proofs.order.clamp32.Reads as clamp32-reads
+use Rattle.order.proofs.clamp32.Reads as clamp32-reads
 use Rattle.tracker.proofs.inner.pair.mended.Reads as mended-reads
 
 -- src/inner/pair.rt:38:9

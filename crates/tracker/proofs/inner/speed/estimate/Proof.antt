@@ -5,7 +5,7 @@ use Rattle.tracker.proofs.inner.speed.estimate.Statement.{statement}
 use Rattle.tracker.proofs.inner.speed.estimate.Tie as tie
 use Rattle.tracker.proofs.inner.speed.estimate.Reads as reads
 use Rattle.tracker.proofs.inner.speed.estimate.Lts as lts
-use Rattle.numbers.proofs.order.clamp32.Reads as clamp32-reads
+use Rattle.order.proofs.clamp32.Reads as clamp32-reads
 use Rattle.tracker.proofs.inner.speed.bias.Reads as bias-reads
 
 -- src/inner/speed.rt:24:29

@@ -1,0 +1,195 @@
+//! How long a call takes, beside Rust's own, on the same inputs.
+
+use crate::hullathan::numbers as ours;
+use crate::log01;
+use crate::random::Random;
+use std::hint::black_box;
+use std::time::Instant;
+
+/// How many inputs a function is given, how often in one run, and how many runs there are.
+const INPUTS: usize = 4096;
+const ROUNDS: usize = 24;
+const RUNS: usize = 25;
+
+/// A function called on all its inputs.
+type Loop<'a> = Box<dyn FnMut() + 'a>;
+
+/// Nanoseconds for one call in each loop: the median of the runs. The loops run by turns, so that a busy machine slows all alike.
+fn medians(mut loops: Vec<Loop>) -> Vec<f64> {
+    let mut times = vec![Vec::new(); loops.len()];
+    for _ in 0..RUNS {
+        for (run, t) in loops.iter_mut().zip(&mut times) {
+            let start = Instant::now();
+            for _ in 0..ROUNDS {
+                run();
+            }
+            t.push(start.elapsed().as_nanos() as f64 / (ROUNDS * INPUTS) as f64);
+        }
+    }
+    for t in &mut times {
+        t.sort_by(f64::total_cmp);
+    }
+    times.into_iter().map(|t| t[RUNS / 2]).collect()
+}
+
+/// An input that can be made to wait for the last result.
+trait Input: Copy {
+    /// The input itself where `mask` is 0, which the compiler cannot know.
+    fn after(self, last: u64, mask: u64) -> Self;
+}
+
+impl Input for f32 {
+    fn after(self, last: u64, mask: u64) -> f32 {
+        f32::from_bits(self.to_bits() ^ (last & mask) as u32)
+    }
+}
+
+impl Input for f64 {
+    fn after(self, last: u64, mask: u64) -> f64 {
+        f64::from_bits(self.to_bits() ^ last & mask)
+    }
+}
+
+impl Input for (f32, f32) {
+    fn after(self, last: u64, mask: u64) -> (f32, f32) {
+        (self.0, self.1.after(last, mask))
+    }
+}
+
+/// A result that the next input can wait for.
+trait Output {
+    fn bits(self) -> u64;
+}
+
+impl Output for f32 {
+    fn bits(self) -> u64 {
+        u64::from(self.to_bits())
+    }
+}
+
+impl Output for f64 {
+    fn bits(self) -> u64 {
+        self.to_bits()
+    }
+}
+
+impl Output for bool {
+    fn bits(self) -> u64 {
+        u64::from(self)
+    }
+}
+
+/// How the calls of a table follow each other.
+#[derive(Clone, Copy)]
+enum Form {
+    /// No call waits for another.
+    Apart,
+    /// Each call waits for the one before it.
+    InTurn,
+}
+
+impl Form {
+    fn calls<'a, A: Input, B: Output>(self, inputs: &'a [A], f: impl Fn(A) -> B + 'a) -> Loop<'a> {
+        match self {
+            Form::Apart => Box::new(move || {
+                for &v in inputs {
+                    black_box(f(black_box(v)));
+                }
+            }),
+            Form::InTurn => {
+                let mask = black_box(0);
+                Box::new(move || {
+                    let mut last = 0;
+                    for &v in inputs {
+                        last = f(v.after(last, mask)).bits();
+                    }
+                    black_box(last);
+                })
+            }
+        }
+    }
+}
+
+/// A line for each function that ours stands beside.
+fn print(name: &str, ours: Loop, beside: Vec<(&str, Loop)>) {
+    let (names, others): (Vec<_>, Vec<_>) = beside.into_iter().unzip();
+    let times = medians(std::iter::once(ours).chain(others).collect());
+    for (other, t) in names.iter().zip(&times[1..]) {
+        let ratio = times[0] / t;
+        println!(
+            "| {name} | {:.1} | {other} | {t:.1} | {ratio:.1} |",
+            times[0]
+        );
+    }
+}
+
+/// Calls one of the library's functions: what it leaves behind the reference.
+fn answer<T: Default>(f: impl FnOnce(&mut T) -> u8) -> T {
+    let mut out = T::default();
+    f(&mut out);
+    out
+}
+
+fn inputs<A>(seed: u64, low: f64, high: f64, of: fn(f64) -> A) -> Vec<A> {
+    let mut random = Random::new(seed);
+    (0..INPUTS).map(|_| of(random.scale(low, high))).collect()
+}
+
+fn table(title: &str, form: Form) {
+    println!("{title}\n\n| function | ns | beside | ns | ratio |\n|---|---|---|---|---|");
+    // the product of two centroids, of which the boundary is the root
+    let products = inputs(1, 20.0 * 16.0, 150.0 * 2500.0, |x| x as f32);
+    print(
+        "root of an f32",
+        form.calls(&products, |v| answer(|out| ours::sqrt32(v, out))),
+        vec![("`f32::sqrt`", form.calls(&products, f32::sqrt))],
+    );
+    // a mark, and such a product; a branch on the result is foretold, so no call waits for it
+    if let Form::Apart = form {
+        let marks = inputs(5, 20.0, 900.0, |x| x as f32);
+        let tests: Vec<_> = marks
+            .iter()
+            .copied()
+            .zip(products.iter().copied())
+            .collect();
+        print(
+            "x below the root of v",
+            form.calls(&tests, |(x, v)| answer(|out| ours::below_root(x, v, out))),
+            vec![("`x < v.sqrt()`", form.calls(&tests, |(x, v)| x < v.sqrt()))],
+        );
+    }
+    // a variance of marks
+    let variances = inputs(2, 1.0 / 4096.0, 262_144.0 * 262_144.0, |x| x);
+    print(
+        "root of an f64",
+        form.calls(&variances, |v| answer(|out| ours::sqrt64(v, out))),
+        vec![("`f64::sqrt`", form.calls(&variances, f64::sqrt))],
+    );
+    // a mean of marks
+    let means = inputs(3, 1.0 / 64.0, 262_144.0, |x| x);
+    print(
+        "f64 to f32",
+        form.calls(&means, |v| answer(|out| ours::narrow(v, out))),
+        vec![("`as f32`", form.calls(&means, |v| v as f32))],
+    );
+    // a mark or a gap
+    let durations = inputs(4, 1.0 / 64.0, 262_144.0, |x| x as f32);
+    print(
+        "logarithm",
+        form.calls(&durations, |v| answer(|out| ours::ln(v, out))),
+        vec![
+            ("`f32::ln`", form.calls(&durations, f32::ln)),
+            (
+                "document 01's, in Rust",
+                form.calls(&durations, |v| log01::ln(v).unwrap_or(0.0)),
+            ),
+        ],
+    );
+    println!();
+}
+
+/// Two tables in markdown.
+pub fn numbers() {
+    table("Calls that do not wait for each other:", Form::Apart);
+    table("Each call waits for the one before it:", Form::InTurn);
+}

@@ -1,0 +1,15 @@
+//! The proved library and the Rust side by side: what the program `oracle` runs. See README.md.
+
+pub mod bench;
+pub mod compare;
+pub mod exhaustive;
+pub mod hullathan;
+pub mod layers;
+pub mod log01;
+#[cfg(manta)]
+#[allow(dead_code)]
+pub mod manta;
+pub mod patterns;
+pub mod random;
+pub mod shrink;
+pub mod states;

@@ -1,0 +1,100 @@
+//! Runs the proved library beside the Rust: see README.md.
+
+use oracle::compare::Limit;
+use oracle::layers::{Entry, LAYERS};
+use oracle::{bench, exhaustive};
+use std::process::ExitCode;
+use std::time::Duration;
+
+const USAGE: &str = "\
+oracle layers                      the layers that can be compared, and how many seconds the gate gives each
+oracle compare LAYER [--seed S] [--seconds T | --count N]
+                                   the same cases to both sides, up to the first difference (10 seconds from seed 1)
+oracle exhaustive [--threads N]    the f32 root and the logarithm over all 2^32 patterns (2 threads; minutes)
+oracle bench numbers               nanoseconds for each call, beside Rust's own
+";
+
+/// What a command that needs manta's Rust says without it.
+const NO_MANTA: &str = "manta sources not found: no comparison with the Rust was run";
+
+/// The value after a word of the command line.
+fn option(words: &[String], name: &str) -> Result<Option<u64>, String> {
+    let Some(at) = words.iter().position(|w| w == name) else {
+        return Ok(None);
+    };
+    words
+        .get(at + 1)
+        .and_then(|w| w.parse().ok())
+        .map(Some)
+        .ok_or_else(|| format!("{name} wants a whole number"))
+}
+
+/// Nothing stands on the command line but these options, each with a number.
+fn only(words: &[String], names: &[&str]) -> Result<(), String> {
+    for pair in words.chunks(2) {
+        if !names.contains(&pair[0].as_str()) {
+            return Err(format!("{} is not known here", pair[0]));
+        }
+    }
+    Ok(())
+}
+
+fn layer(name: &str) -> Result<&'static Entry, String> {
+    LAYERS
+        .iter()
+        .find(|l| l.name == name)
+        .ok_or_else(|| format!("there is no layer {name}"))
+}
+
+fn compare(name: &str, words: &[String]) -> Result<bool, String> {
+    only(words, &["--seed", "--seconds", "--count"])?;
+    let entry = layer(name)?;
+    if entry.needs_manta && !cfg!(manta) {
+        println!("{name}: {NO_MANTA}");
+        return Ok(false);
+    }
+    let seed = option(words, "--seed")?.unwrap_or(1);
+    let limit = match (option(words, "--seconds")?, option(words, "--count")?) {
+        (Some(_), Some(_)) => return Err("--seconds or --count, not both".into()),
+        (_, Some(n)) => Limit::Count(n),
+        (t, None) => Limit::Time(Duration::from_secs(t.unwrap_or(10))),
+    };
+    Ok((entry.report)(seed, limit))
+}
+
+/// Whether the command found nothing wrong.
+fn command(words: &[String]) -> Result<bool, String> {
+    let (first, rest) = words.split_first().ok_or("a command is wanted")?;
+    match (first.as_str(), rest.split_first()) {
+        ("layers", None) => {
+            for l in LAYERS {
+                println!("{} {}", l.name, l.gate);
+            }
+            Ok(true)
+        }
+        ("compare", Some((name, options))) => compare(name, options),
+        ("exhaustive", _) => {
+            only(rest, &["--threads"])?;
+            Ok(exhaustive::report(
+                option(rest, "--threads")?.unwrap_or(2).max(1),
+            ))
+        }
+        ("bench", Some((name, []))) if name == "numbers" => {
+            bench::numbers();
+            Ok(true)
+        }
+        _ => Err("the command is not known".into()),
+    }
+}
+
+fn main() -> ExitCode {
+    let words: Vec<String> = std::env::args().skip(1).collect();
+    match command(&words) {
+        Ok(true) => ExitCode::SUCCESS,
+        Ok(false) => ExitCode::from(1),
+        Err(message) => {
+            eprintln!("oracle: {message}\n\n{USAGE}");
+            ExitCode::from(2)
+        }
+    }
+}
