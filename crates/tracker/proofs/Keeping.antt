@@ -9,7 +9,7 @@ use native.Mathlib.Omega.{arith}
 use lib.Dec.{T, eqb, leb, leb→le}
 use lib.ListN.{length, take, drop, length-append, length-take, length-drop, length-map}
 use lib.Seq.{length-take-le}
-use lib.Ieee.{Float, binary32, add, sub, mul, div, lt, le, isNan, fits, ofBits}
+use lib.Ieee.{Float, binary32, add, sub, mul, div, lt, le, eq, isNan, fits, ofBits}
 use lib.Ieee.Scale.{finite}
 use lib.Ieee.Positive.{positive, between, positive-finite}
 use lib.Ieee.Fits.{add-fits, mul-fits, div-fits}
@@ -480,7 +480,7 @@ module _ (k : Settings) (Good-k : Good k) (Held-k : Held k) where
   -- ---- the other calls
 
   pub fresh-sane : Sane fresh
-  unfolding all fits
+  unfolding all fits eq
   fresh-sane = record {
     fine = record { pair = tt; ring = tt; recent = tt; wpm = tt; egap = tt; hint = tt };
     floats = record { lo = tt; hi = tt; wpm = tt; egap = tt };

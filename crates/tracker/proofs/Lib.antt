@@ -1,4 +1,5 @@
 pub mod Examples
+pub mod Testing
 pub mod Sorting
 pub mod Summing
 pub mod Cutting

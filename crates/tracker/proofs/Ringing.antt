@@ -57,29 +57,6 @@ copy-ends l out i h v =
     let b = v .room in
     sym (take-all i out (omega arith)) ∙ v .is ∙ ap durations (take-all i l (omega arith))
 
--- ---- all of one class: the first i are
-pub record Classing (b : Bool) (l : List RingEntry) (i : ℕ) : Type 0 where
-  pub upto : i ≤ 12
-  pub long : length l ≡ 12
-  pub is : allClassed b l ≡ allClassed b (drop i l)
-
-pub class-begins : (b : Bool) (l : List RingEntry) → length l ≡ 12 → Classing b l 0
-class-begins b l h = record { upto = omega arith; long = h; is = refl }
-
-class-next : (b : Bool) (l : List RingEntry) (i : ℕ) (z : RingEntry) (x : Bool) → i < length l → classed b (getD l i z) ≡ x → allClassed b (drop i l) ≡ (x && allClassed b (drop (suc i) l))
-unfolding all
-class-next b l i z x h e = rw (drop-cons l i z h, e)
-
-pub class-turns : (b : Bool) (l : List RingEntry) (i : ℕ) (z : RingEntry) → i < 12 → Classing b l i → classed b (getD l i z) ≡ true → Classing b l (i + 1)
-class-turns b l i z h v e = let a = v .long in record { upto = omega arith; long = a; is = v .is ∙ class-next b l i z true (omega arith) e ∙ rw add-one }
-
-pub class-fails : (b : Bool) (l : List RingEntry) (i : ℕ) (z : RingEntry) → i < 12 → Classing b l i → classed b (getD l i z) ≡ false → false ≡ allClassed b l
-class-fails b l i z h v e = let a = v .long in sym (v .is ∙ class-next b l i z false (omega arith) e)
-
-pub class-ends : (b : Bool) (l : List RingEntry) (i : ℕ) → 12 ≤ i → Classing b l i → true ≡ allClassed b l
-unfolding all
-class-ends b l i h v = let a = v .long in sym (v .is ∙ rw (drop-of-length-le l {i = i} (omega arith)))
-
 -- ---- a ring whose count is 12 is the whole array
 pub whole : {A : Type 0} (l : List A) (n : ℕ) → length l ≡ 12 → n ≡ 12 → take n l ≡ l
 whole l n h e = take-all n l (omega arith)
@@ -141,15 +118,6 @@ dah-number x i = finite-number x (in-finite dahMin dahMax x tt tt i)
 
 pub twelve : (l : List RingEntry) → length l ≡ 12 → length (durations l) ≤ 12
 twelve l h = let e = length-map l (λ (e : RingEntry). e .«dur_ms») in omega arith
-
--- a test by `!`
-pub not-taken : (b : Bool) → not b ≡ true → b ≡ false
-not-taken true e = sym e
-not-taken false e = refl
-
-pub not-left : (b : Bool) → not b ≡ false → b ≡ true
-not-left true e = refl
-not-left false e = sym e
 
 -- ---- the tests, from what the code computed
 

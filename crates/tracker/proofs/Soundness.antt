@@ -17,6 +17,8 @@ use Rattle.tracker.specs.declared.SpeedTracker.{SpeedTracker}
 use Rattle.tracker.specs.Model.{Pair, Tracker, view, pushed, all}
 use Rattle.tracker.specs.Parts.{Counted}
 use Rattle.tracker.specs.Sound.{duration, allDurations, centroids, plusZero, pairSound, ringSound, positiveOr, hintSound, proper, counted, sound}
+use lib.Ieee.Bits.{is-true}
+use Rattle.ranges.proofs.Compare.{passed}
 use Rattle.tracker.proofs.Ringing.{both, inside}
 
 pub join : (a b : Bool) → T a → T b → T (a && b)
@@ -137,14 +139,16 @@ module _ (k : Settings) (m : Tracker) where
       (join (allDurations (m .recent)) e4 (f .recent) (join (positiveOr (m .wpm)) e5 (f .wpm) (join (positiveOr (m .egap)) (hintSound k (m .hint)) (f .egap) (f .hint)))))
 
 -- ---- and its counts
+pub counted-is : (t : SpeedTracker) → counted t ≡ true → Counted t
+counted-is t e =
+    let b = both (leb (t .pair .«init_len») 12) (leb (t .«ring_len») 12 && leb (t .«recent_len») 5) (passed e) in
+    let c = both (leb (t .«ring_len») 12) (leb (t .«recent_len») 5) (b .1) in
+    record { init = leb→le (t .pair .«init_len») 12 (b .0); ring = leb→le (t .«ring_len») 12 (c .0); recent = leb→le (t .«recent_len») 5 (c .1) }
+
 module _ (k : Settings) (t : SpeedTracker) where
   pub counts : T (sound k t) → Counted t
   unfolding sound
-  counts s =
-      let a = both (counted t) (proper k (view t)) s .0 in
-      let b = both (leb (t .pair .«init_len») 12) (leb (t .«ring_len») 12 && leb (t .«recent_len») 5) a in
-      let c = both (leb (t .«ring_len») 12) (leb (t .«recent_len») 5) (b .1) in
-      record { init = leb→le (t .pair .«init_len») 12 (b .0); ring = leb→le (t .«ring_len») 12 (c .0); recent = leb→le (t .«recent_len») 5 (c .1) }
+  counts s = counted-is t (is-true (counted t) (both (counted t) (proper k (view t)) s .0))
 
   pub sound-proper : T (sound k t) → T (proper k (view t))
   unfolding sound

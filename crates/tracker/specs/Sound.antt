@@ -1,14 +1,14 @@
 -- What makes a tracker sound (document 01, refusal 1). Definitions only.
-use mathlib.Core.Bool.{Bool, true, false, cond, _&&_}
+use mathlib.Core.Bool.{Bool, true, false, not, cond, _&&_}
 use mathlib.Core.List.{List, [], _∷_}
 use mathlib.Core.Option.{Option, none, some}
-use Prim.Native.Nat.{ℕ, zero}
 use lib.Dec.{leb}
 use lib.ListN.{length}
-use lib.Ieee.{Float, nan, inf, fin}
+use lib.Ieee.{Float, eq}
 use lib.Ieee.Positive.{positive}
 use Rattle.ranges.specs.Settings.{Settings}
-use Rattle.ranges.specs.Limits.{durationMin, durationMax, dahMin, dahMax}
+use Rattle.order.specs.Order.{negative}
+use Rattle.ranges.specs.Limits.{nought, durationMin, durationMax, dahMin, dahMax}
 use Rattle.ranges.specs.Interval.{within}
 use Rattle.tracker.specs.declared.RingEntry.{RingEntry}
 use Rattle.tracker.specs.declared.SpeedTracker.{SpeedTracker}
@@ -27,15 +27,18 @@ centroids k lo hi = within (k .ditMin) (k .ditMax) lo && within dahMin dahMax hi
 
 -- "a centroid not +0": a -0 is unsound too
 abbrev pub plusZero : Float → Bool
-plusZero nan = false
-plusZero (inf s) = false
-plusZero (fin true m e) = false
-plusZero (fin false m e) = leb m 0
+plusZero x = eq x nought && not (negative x)
 
--- "ready with dit outside ..; unready with a centroid not +0 or more than 4 start marks"
+-- "unready with a centroid not +0 or more than 4 start marks"
+abbrev pub waiting : Pair → Bool
+waiting p = plusZero (p .lo) && (plusZero (p .hi) && leb (length (p .init)) 4)
+
+-- "ready with dit outside .. or dah outside ..", or else that
+abbrev pub pairSettled : Settings → Pair → Bool
+pairSettled k p = cond (p .ready) (centroids k (p .lo) (p .hi)) (waiting p)
+
 abbrev pub pairSound : Settings → Pair → Bool
-pairSound k p =
-    cond (p .ready) (centroids k (p .lo) (p .hi)) (plusZero (p .lo) && (plusZero (p .hi) && leb (length (p .init)) 4)) && allDurations (p .init)
+pairSound k p = pairSettled k p && allDurations (p .init)
 
 -- "a ring entry's centroids outside those ranges", and its held duration
 abbrev pub entrySound : Settings → RingEntry → Bool
@@ -54,11 +57,13 @@ abbrev pub hintSound : Settings → Option Float → Bool
 hintSound k none = true
 hintSound k (some h) = within (k .ratioMin) (k .ratioMax) h
 
+-- the recent marks, the speed average, the gap centroid and the hint
+abbrev pub restSound : Settings → Tracker → Bool
+restSound k t = allDurations (t .recent) && (positiveOr (t .wpm) && (positiveOr (t .egap) && hintSound k (t .hint)))
+
 -- of what is part of the state
 unfoldable pub proper : Settings → Tracker → Bool
-proper k t =
-    pairSound k (t .pair)
-    && (ringSound k (t .ring) && (allDurations (t .recent) && (positiveOr (t .wpm) && (positiveOr (t .egap) && hintSound k (t .hint)))))
+proper k t = pairSound k (t .pair) && (ringSound k (t .ring) && restSound k t)
 
 -- "a count above its capacity": start marks 12, ring 12, recent 5
 abbrev pub counted : SpeedTracker → Bool

@@ -10,5 +10,6 @@ pub mod relock;
 pub mod resolve;
 pub mod rivals;
 pub mod sort;
+pub mod sound;
 pub mod speed;
 pub mod sums;

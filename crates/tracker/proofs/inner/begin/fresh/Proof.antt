@@ -1,6 +1,6 @@
 use Rattle.tracker.specs.Sound.{sound, proper}
 use Rattle.tracker.specs.Model.{all}
-use lib.Ieee.{ofBits}
+use lib.Ieee.{ofBits, eq}
 use mathlib.Core.Path.{refl}
 use native.Mathlib.Omega.{arith}
 use borrow.Author.Needs.{needs}
@@ -11,7 +11,7 @@ use Rattle.tracker.proofs.inner.begin.fresh.Lts as lts
 
 -- src/inner/begin.rt:20:1
 returns : tie.Need-returns
-unfolding ofBits sound proper all
+unfolding ofBits eq sound proper all
 returns c = (refl, tt)
 
 pub fresh-spec : {M : Type 1} → statement M

@@ -1,4 +1,8 @@
-use Rattle.tracker.proofs.Ringing.{Classing, class-begins, class-turns, class-fails, class-ends, not-taken, not-left}
+use Rattle.tracker.proofs.Testing.{Testing, test-begins, test-turns, test-fails, test-ends}
+use Rattle.tracker.specs.Steps.{classed}
+use lib.ListN.{length}
+use mathlib.Core.Path.{_≡_}
+use Prim.Native.Nat.{ℕ}
 use Rattle.tracker.proofs.Shifting.{unmapped}
 use mathlib.Core.Path.{sym, _∙_}
 use Prim.Native.Nat.{_-_}
@@ -11,14 +15,14 @@ use Rattle.tracker.proofs.inner.drift.all_classed.Lts as lts
 use Rattle.tracker.proofs.inner.drift.is_classed.Reads as is-classed-reads
 
 abbrev Inv-loop : tie.InvT-loop
-Inv-loop dit t i₀ i = Classing dit (t .ring) i
+Inv-loop dit t i₀ i = (length (t .ring) ≡ 12) × Testing (classed dit) (t .ring) i
 
 abbrev μ-loop : tie.MeasureT-loop
 μ-loop dit t i₀ i = 12 - i
 
 -- src/inner/drift.rt:42:5
 loop-holds : tie.Need-loop-holds Inv-loop μ-loop
-loop-holds c = class-begins _ _ (search (unmapped, needs))
+loop-holds c = (search (unmapped, needs), test-begins _ _)
 
 -- src/inner/drift.rt:43:17
 mul-e : tie.Need-mul-e Inv-loop μ-loop
@@ -38,7 +42,7 @@ is-classed-requires c κs = search needs
 
 -- src/inner/drift.rt:46:13
 returns : tie.Need-returns Inv-loop μ-loop
-returns c = class-fails _ _ _ _ (omega arith) (c .before .before .before .before .loop .inv) (sym (c .before .is-classed .ensures) ∙ not-taken _ (c .if1 .taken))
+returns c = let v = c .before .before .before .before .loop .inv in test-fails (classed (c .before .before .before .before .before .args .dit)) _ _ _ (c .before .is-classed .result) (omega (arith, v .0)) (v .1) (c .before .is-classed .ensures) (c .if1 .taken)
 
 -- src/inner/drift.rt:42:5
 loop-less : tie.Need-loop-less Inv-loop μ-loop
@@ -46,11 +50,11 @@ loop-less c = search needs
 
 -- src/inner/drift.rt:42:5
 loop-again : tie.Need-loop-again Inv-loop μ-loop
-loop-again c = class-turns _ _ _ _ (omega arith) (c .before .before .before .before .loop .inv) (sym (c .before .is-classed .ensures) ∙ not-left _ (c .if1 .left))
+loop-again c = let v = c .before .before .before .before .loop .inv in (v .0, test-turns (classed (c .before .before .before .before .before .args .dit)) _ _ _ (c .before .is-classed .result) (omega (arith, v .0)) (v .1) (c .before .is-classed .ensures) (c .if1 .left))
 
 -- src/inner/drift.rt:38:1
 returns-2 : tie.Need-returns-2 Inv-loop μ-loop
-returns-2 c = class-ends _ _ _ (omega arith) (c .before .loop .inv)
+returns-2 c = let v = c .before .loop .inv in test-ends (classed (c .before .before .args .dit)) _ _ (omega (arith, v .0)) (v .1)
 
 pub all-classed-spec : {M : Type 1} → statement M
 all-classed-spec =
