@@ -13,3 +13,4 @@ pub mod Marking
 pub mod Stored
 pub mod Banding
 pub mod Rivalling
+pub mod Answering

@@ -74,8 +74,10 @@ speedRefusal v = cond (positive v) 0 8
 abbrev pub listRefusal : List Float → ℕ
 listRefusal l = cond (leb (length l) 12) 0 4
 
--- ---- what a call that was handed t, and met the refusal n, leaves in r: t as it was, bit for bit; else what m says, and sound
-pub record Left (k : Settings) (n : ℕ) (t : SpeedTracker) (m : Tracker) (r : SpeedTracker) : Type 0 where
+-- ---- what a call says and leaves that was handed t and met the refusal n
+-- It says a, or the refusal's number. It leaves t as it was, bit for bit, or else what m says, which is sound.
+pub record Answers (k : Settings) (n : ℕ) (t : SpeedTracker) (a said : Answer) (m : Tracker) (r : SpeedTracker) : Type 0 where
+  pub says : said ≡ unless n a
   pub kept : (n ≡ 0 → ⊥) → r ≡ t
   pub state : n ≡ 0 → view r ≡ m
   pub still : n ≡ 0 → T (sound k r)

@@ -6,6 +6,7 @@ pub mod lock;
 pub mod mark;
 pub mod pair;
 pub mod push;
+pub mod refusals;
 pub mod relock;
 pub mod resolve;
 pub mod rivals;

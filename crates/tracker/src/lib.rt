@@ -1,4 +1,5 @@
 // The speed tracker of document 01, "ClusterPair and SpeedTracker".
+pub mod calls;
 pub mod inner;
 
 // One mark of the ring: its length, whether it was classed a dit, and both centroids as they stood before it.
