@@ -123,8 +123,8 @@ pub fn reseed_wpm_after_warmup(t: SpeedTracker) -> SpeedTracker
     requires { ⌜ T (sound standard t) ⌝ }
     ensures { λ r. ⌜ (view r ≡ reseeded standard (view t)) × T (sound standard r) ⌝ }
 {
-    let p = t.pair;
-    if p.ready {
+    let lock = t.pair;
+    if lock.ready {
         return timed(t);
     }
     t
