@@ -14,3 +14,4 @@ pub mod Stored
 pub mod Banding
 pub mod Rivalling
 pub mod Answering
+pub mod Staying
