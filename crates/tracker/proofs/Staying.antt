@@ -1,6 +1,6 @@
 -- A ready tracker stays ready, whatever call is accepted; the regime count wraps. Assumes nothing.
-use mathlib.Core.Path.{_≡_, refl, ap, sym, _∙_}
-use mathlib.Core.Bool.{Bool, true, false, not, cond, _&&_}
+use mathlib.Core.Path.{_≡_, ap}
+use mathlib.Core.Bool.{Bool, true, not, _&&_}
 use mathlib.Core.List.{List}
 use Prim.Native.Nat.{ℕ, _+_, _%_, _^_}
 use lib.Dec.{T, leb}
@@ -8,11 +8,11 @@ use lib.ListN.{length}
 use lib.Ieee.{Float, binary32, fits}
 use lib.Ieee.Positive.{positive}
 use Rattle.ranges.specs.Settings.{Settings, Good, Held}
-use Rattle.tracker.specs.Model.{Pair, Tracker, withPair}
+use Rattle.tracker.specs.Model.{Tracker, withPair}
 use Rattle.tracker.specs.Lock.{initialized, constrained}
 use Rattle.tracker.specs.Sound.{duration}
 use Rattle.tracker.specs.Steps.{timed, bound, setHint, onGap, canBegin, bootstrapped, seeded, reseeded, settled, turned, gapsSayDahs, resolved, relocked, onMark}
-use Rattle.tracker.proofs.Keeping.{by-cond, on-false, Sane, Up, mark-up, hint-sane, gap-up, begin-sane, seed-up, reseed-sane, settled-sane, resolve-sane}
+use Rattle.tracker.proofs.Keeping.{by-cond, on-false, Up, mark-up, hint-sane, gap-up, begin-sane, seed-up, reseed-sane, settled-sane, resolve-sane}
 
 -- the calls, with what they are given
 pub data Call : Type 0 where
