@@ -15,3 +15,4 @@ pub mod Banding
 pub mod Rivalling
 pub mod Answering
 pub mod Staying
+pub mod Ordered

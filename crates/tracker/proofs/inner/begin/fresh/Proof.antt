@@ -8,7 +8,7 @@ use Rattle.tracker.proofs.inner.begin.fresh.Tie as tie
 
 returns : tie.Need-returns
 unfolding ofBits eq sound proper all
-returns c = (refl, tt)
+returns c = (refl, (refl, tt))
 
 pub fresh-spec : {M : Type 1} → statement M
 fresh-spec = tie.close (tie.spec returns)

@@ -24,14 +24,14 @@ fresh-requires c κs = search needs
 
 bound-requires : tie.Need-bound-requires
 bound-requires c κs =
-    let k = counts standard (c .fresh .result) (c .fresh .ensures .1) in
+    let k = counts standard (c .fresh .result) (c .fresh .ensures .1 .1) in
     record { init = let e = c .before .initialize .ensures .1 in omega arith; ring = k .ring; recent = k .recent }
 
 returns : tie.Need-returns
 returns c =
     let s = c .before .before .before .before .before in
     let l = s .args .marks .now in
-    still (c .bound .result) (bound standard (withPair fresh (initialized standard l))) (c .bound .ensures .0 ∙ ap (λ (z : Tracker). bound standard (withPair z (viewPair (c .before .before .initialize .result)))) (c .before .fresh .ensures .0) ∙ ap (λ (p : Pair). bound standard (withPair fresh p)) (c .before .before .initialize .ensures .0 ∙ ap (initialized standard) (c .before .before .before .copied .ensures)), c .bound .ensures .1) (locked-up standard standard-good standard-held fresh l (rest-of standard standard-good standard-held fresh (fresh-sane standard standard-good standard-held)) (s .pre .1) (s .pre .0 .0) (s .pre .0 .1) .sane)
+    still (c .bound .result) (bound standard (withPair fresh (initialized standard l))) (c .bound .ensures .0 ∙ ap (λ (z : Tracker). bound standard (withPair z (viewPair (c .before .before .initialize .result)))) (c .before .fresh .ensures .1 .0) ∙ ap (λ (p : Pair). bound standard (withPair fresh p)) (c .before .before .initialize .ensures .0 ∙ ap (initialized standard) (c .before .before .before .copied .ensures)), c .bound .ensures .1) (locked-up standard standard-good standard-held fresh l (rest-of standard standard-good standard-held fresh (fresh-sane standard standard-good standard-held)) (s .pre .1) (s .pre .0 .0) (s .pre .0 .1) .sane)
 
 pub locked-spec : {M : Type 1} → statement M
 locked-spec =

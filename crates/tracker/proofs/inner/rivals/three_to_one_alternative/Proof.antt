@@ -23,7 +23,7 @@ fresh-requires c κs = search needs
 
 bound-requires : tie.Need-bound-requires
 bound-requires c κs =
-    let k = counts standard (c .fresh .result) (c .fresh .ensures .1) in
+    let k = counts standard (c .fresh .result) (c .fresh .ensures .1 .1) in
     record { init = c .before .other-pair .ensures .1; ring = k .ring; recent = k .recent }
 
 timed-requires : tie.Need-timed-requires
@@ -33,7 +33,7 @@ returns : tie.Need-returns
 returns c =
     let s = c .before .before .before .before .before .before .before in
     let t = s .args .t in
-    let x = c .timed .ensures .0 ∙ ap (timed standard) (c .before .bound .ensures .0 ∙ ap (λ (z : Tracker). bound standard (withPair z (viewPair (c .before .before .before .other-pair .result)))) (c .before .before .fresh .ensures .0) ∙ ap (λ (p : Pair). bound standard (withPair fresh p)) (c .before .before .before .other-pair .ensures .0)) in
+    let x = c .timed .ensures .0 ∙ ap (timed standard) (c .before .bound .ensures .0 ∙ ap (λ (z : Tracker). bound standard (withPair z (viewPair (c .before .before .before .other-pair .result)))) (c .before .before .fresh .ensures .1 .0) ∙ ap (λ (p : Pair). bound standard (withPair fresh p)) (c .before .before .before .other-pair .ensures .0)) in
     let e = sym (c .before .before .before .before .before .has-other .ensures) ∙ c .before .before .before .before .if1 .taken in
     (other-is standard (view t) (c .timed .result) e x, still (c .timed .result) (timed standard (bound standard (withPair fresh (otherPair (view t .pair))))) (x, c .timed .ensures .1) (other-up standard standard-good standard-held (view t) (record { sane = sane-of t _ (s .good .0 .1 .1) (s .pre); ready = other-ready (view t .pair) e }) .sane) .1)
 
