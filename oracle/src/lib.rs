@@ -11,5 +11,7 @@ pub mod log01;
 pub mod manta;
 pub mod patterns;
 pub mod random;
+#[cfg(manta)]
+pub mod replay;
 pub mod shrink;
 pub mod states;

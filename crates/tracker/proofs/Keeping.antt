@@ -13,10 +13,10 @@ use lib.Ieee.Scale.{finite}
 use lib.Ieee.Positive.{positive, between, positive-finite}
 use lib.Ieee.Fits.{add-fits, mul-fits, div-fits}
 use borrow.Author.Tests.{eqb-false}
+use Rattle.order.specs.Order.{clamp}
 use Rattle.ranges.specs.Settings.{Settings, Good, Held}
 use Rattle.ranges.specs.Limits.{durationMin, durationMax, dahMin, dahMax, paris, speedWeight}
 use Rattle.ranges.specs.Interval.{In, AllIn, within}
-use Rattle.ranges.specs.Clamp.{clamp}
 use Rattle.ranges.specs.Average.{average}
 use Rattle.ranges.specs.Mean.{mean64, meanOf}
 use Rattle.ranges.proofs.Compare.{passed}

@@ -1,5 +1,5 @@
 -- Sorted marks are in order, and are a rearrangement of the marks. Assumes nothing.
-use mathlib.Core.Path.{_≡_, refl, ap, sym, _∙_}
+use mathlib.Core.Path.{_≡_, refl, ap}
 use mathlib.Core.Bool.{Bool, true, false, not, cond}
 use mathlib.Core.List.{List, [], _∷_}
 use Prim.Native.Nat.{ℕ, _+_}
@@ -8,7 +8,7 @@ use lib.Dec.{T}
 use lib.Ieee.{Float, lt, le, isNan}
 use Rattle.ranges.proofs.Signed.{le-trans-float}
 use Rattle.ranges.proofs.Compare.{lt→le, nlt→le, passed, failed}
-use Rattle.tracker.specs.Lock.{lesser, greater, insert, insertAll, sorted}
+use Rattle.tracker.specs.Lock.{insert, insertAll, sorted}
 
 by-bool : (P : Bool → Type 0) (b : Bool) → (b ≡ true → P true) → (b ≡ false → P false) → P b
 by-bool P true f g = f refl

@@ -8,11 +8,10 @@ use lib.ListN.{length, getD}
 use lib.Ieee.{Float, nan, binary32, binary64, neg, sub, mul, div, lt, le}
 use lib.Ieee.Scale.{finite}
 use Rattle.numbers.specs.Root.{sqrtOf}
-use Rattle.order.specs.Order.{abs}
+use Rattle.order.specs.Order.{abs, clamp}
 use Rattle.ranges.specs.Settings.{Settings}
 use Rattle.ranges.specs.Limits.{nought, half, biasCap, paris, speedWeight}
 use Rattle.ranges.specs.Interval.{within}
-use Rattle.ranges.specs.Clamp.{clamp}
 use Rattle.ranges.specs.Average.{average}
 use Rattle.ranges.specs.Mean.{mean64, varianceAbout}
 use Rattle.tracker.specs.Constants.{one, two, three, dahGapFrac, cvMax, offFrac}

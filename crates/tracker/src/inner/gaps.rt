@@ -1,7 +1,7 @@
 // Hints and element gaps.
 use crate::SpeedTracker;
 use order::clamp32;
-use ranges::is_finite;
+use order::is_finite32;
 ghost use mathlib.Core.Path.{_≡_};
 ghost use lib.Dec.{T};
 ghost use Rattle.ranges.specs.Settings.{standard};
@@ -15,7 +15,7 @@ pub fn set_ratio_hint(t: SpeedTracker, hint: f32) -> SpeedTracker
     ensures { λ r. ⌜ (view r ≡ setHint standard (view t) hint) × T (sound standard r) ⌝ }
 {
     let mut u = t;
-    if is_finite(hint) {
+    if is_finite32(hint) {
         u.has_hint = true;
         u.ratio_hint = clamp32(hint, 2.2, 6.0);
         return u;

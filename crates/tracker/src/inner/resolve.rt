@@ -5,7 +5,7 @@ use crate::inner::speed::bound;
 use crate::inner::speed::timed;
 use crate::inner::sums::deviation;
 use crate::inner::sums::mean_wide;
-use ranges::is_finite;
+use order::is_finite32;
 ghost use mathlib.Core.Path.{_≡_};
 ghost use Prim.Native.Nat.{_≤_};
 ghost use lib.Dec.{T};
@@ -22,7 +22,7 @@ ghost use Rattle.tracker.specs.Steps.{inBand, agree, band, unsure, gapsS
 pub(crate) fn in_band(lo: f32, g: f32) -> bool
     ensures { λ r. ⌜ r ≡ inBand standard lo g ⌝ }
 {
-    if is_finite(g) {
+    if is_finite32(g) {
         if lo * (1.0 / 6.0) <= g {
             return g < lo * 0.577_35;
         }
@@ -82,7 +82,7 @@ pub(crate) fn unsure(p: ClusterPair) -> bool
         if p.placeholder_is_lo {
             return false;
         }
-        if is_finite(p.lo) {
+        if is_finite32(p.lo) {
             return !(p.lo < 3.0 * 20.0);
         }
     }

@@ -11,8 +11,8 @@ use Rattle.tracker.proofs.Stored.{sane-of, still}
 use Rattle.tracker.proofs.inner.gaps.set_ratio_hint.Statement.{statement}
 use Rattle.tracker.proofs.inner.gaps.set_ratio_hint.Tie as tie
 
-is-finite-requires : tie.Need-is-finite-requires
-is-finite-requires c κs = search needs
+is-finite32-requires : tie.Need-is-finite32-requires
+is-finite32-requires c κs = search needs
 
 clamp32-requires : tie.Need-clamp32-requires
 clamp32-requires c κs = search needs
@@ -23,7 +23,7 @@ returns c =
     let s = c .before .before .before in
     let t = s .args .t in
     let k = counts standard t (s .pre) in
-    still _ _ (rw (sym (c .before .before .is-finite .ensures) ∙ c .before .if1 .taken, c .clamp32 .ensures), record { init = k .init; ring = k .ring; recent = k .recent }) (hint-sane standard standard-good standard-held (view t) (s .args .hint) (sane-of t _ (s .good .0 .1 .1) (s .pre)))
+    still _ _ (rw (sym (c .before .before .is-finite32 .ensures) ∙ c .before .if1 .taken, c .clamp32 .ensures), record { init = k .init; ring = k .ring; recent = k .recent }) (hint-sane standard standard-good standard-held (view t) (s .args .hint) (sane-of t _ (s .good .0 .1 .1) (s .pre)))
 
 returns-2 : tie.Need-returns-2
 unfolding setHint
@@ -31,7 +31,7 @@ returns-2 c =
     let s = c .before .before in
     let t = s .args .t in
     let k = counts standard t (s .pre) in
-    still _ _ (rw (sym (c .before .is-finite .ensures) ∙ c .if1 .left), record { init = k .init; ring = k .ring; recent = k .recent }) (hint-sane standard standard-good standard-held (view t) (s .args .hint) (sane-of t _ (s .good .0 .1 .1) (s .pre)))
+    still _ _ (rw (sym (c .before .is-finite32 .ensures) ∙ c .if1 .left), record { init = k .init; ring = k .ring; recent = k .recent }) (hint-sane standard standard-good standard-held (view t) (s .args .hint) (sane-of t _ (s .good .0 .1 .1) (s .pre)))
 
 pub set-ratio-hint-spec : {M : Type 1} → statement M
-set-ratio-hint-spec = tie.close (tie.spec is-finite-requires clamp32-requires returns returns-2)
+set-ratio-hint-spec = tie.close (tie.spec is-finite32-requires clamp32-requires returns returns-2)

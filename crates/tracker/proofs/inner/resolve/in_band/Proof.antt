@@ -5,19 +5,19 @@ use borrow.Author.Needs.{needs}
 use Rattle.tracker.proofs.inner.resolve.in_band.Statement.{statement}
 use Rattle.tracker.proofs.inner.resolve.in_band.Tie as tie
 
-is-finite-requires : tie.Need-is-finite-requires
-is-finite-requires c κs = search needs
+is-finite32-requires : tie.Need-is-finite32-requires
+is-finite32-requires c κs = search needs
 
 returns : tie.Need-returns
 unfolding div ofBits
-returns c = rw (sym (c .before .before .is-finite .ensures) ∙ c .before .if1 .taken, c .if2 .taken)
+returns c = rw (sym (c .before .before .is-finite32 .ensures) ∙ c .before .if1 .taken, c .if2 .taken)
 
 returns-2 : tie.Need-returns-2
 unfolding div ofBits
-returns-2 c = rw (sym (c .before .before .is-finite .ensures) ∙ c .before .if1 .taken, c .if2 .left)
+returns-2 c = rw (sym (c .before .before .is-finite32 .ensures) ∙ c .before .if1 .taken, c .if2 .left)
 
 returns-3 : tie.Need-returns-3
 returns-3 c = search needs
 
 pub in-band-spec : {M : Type 1} → statement M
-in-band-spec = tie.close (tie.spec is-finite-requires returns returns-2 returns-3)
+in-band-spec = tie.close (tie.spec is-finite32-requires returns returns-2 returns-3)

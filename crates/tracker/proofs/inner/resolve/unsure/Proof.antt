@@ -10,11 +10,11 @@ returns c = search needs
 returns-2 : tie.Need-returns-2
 returns-2 c = search needs
 
-is-finite-requires : tie.Need-is-finite-requires
-is-finite-requires c κs = search needs
+is-finite32-requires : tie.Need-is-finite32-requires
+is-finite32-requires c κs = search needs
 
 returns-3 : tie.Need-returns-3
-returns-3 c = rw (c .before .before .before .before .before .if1 .taken, c .before .before .before .before .if2 .left, c .before .before .before .if3 .left, sym (c .before .before .is-finite .ensures) ∙ c .before .if4 .taken)
+returns-3 c = rw (c .before .before .before .before .before .if1 .taken, c .before .before .before .before .if2 .left, c .before .before .before .if3 .left, sym (c .before .before .is-finite32 .ensures) ∙ c .before .if4 .taken)
 
 returns-4 : tie.Need-returns-4
 returns-4 c = search needs
@@ -24,4 +24,4 @@ returns-5 c = search needs
 
 pub unsure-spec : {M : Type 1} → statement M
 unsure-spec =
-    tie.close (tie.spec returns returns-2 is-finite-requires returns-3 returns-4 returns-5)
+    tie.close (tie.spec returns returns-2 is-finite32-requires returns-3 returns-4 returns-5)
