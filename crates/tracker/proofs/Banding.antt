@@ -1,15 +1,16 @@
 -- Gaps that lie in a band: the loop that keeps them, and their range. Assumes nothing.
-use mathlib.Core.Path.{_≡_, refl, ap, sym, _∙_, subst}
+use mathlib.Core.Path.{_≡_, refl, ap, sym, _∙_}
 use mathlib.Core.Bool.{Bool, true, false, not, cond, _&&_}
 use mathlib.Core.List.{List, [], _∷_, _++_}
-use Prim.Native.Nat.{ℕ, zero, suc, _+_, _≤_, _<_}
+use Prim.Native.Nat.{ℕ, _+_, _≤_, _<_}
 use native.Mathlib.Numerals.{add-one}
 use native.Mathlib.Omega.{arith}
-use lib.Dec.{T, leb}
-use lib.ListN.{length, take, drop, getD, set, length-set}
-use lib.Seq.{take-suc, take-all, length-take-le}
+use lib.Dec.{T}
+use lib.ListN.{length, take, getD, set, length-set}
+use lib.Seq.{take-suc, take-all}
 use lib.Ieee.{Float, nan, binary32, mul, div, lt, le, ofBits}
 use lib.Ieee.Scale.{finite}
+use lib.Ieee.Bits.{is-true}
 use borrow.Author.Tests.{le-leb, lt-leb}
 use Rattle.ranges.specs.Settings.{Settings, standard}
 use Rattle.ranges.specs.Limits.{durationMin, durationMax}
@@ -17,17 +18,16 @@ use Rattle.ranges.specs.Interval.{In, AllIn}
 use Rattle.ranges.specs.Mean.{mean64}
 use Rattle.ranges.proofs.Signed.{le-trans-float}
 use Rattle.ranges.proofs.Compare.{lt→le, passed}
-use Rattle.ranges.proofs.Interval.{mul-in, in-widen}
+use Rattle.ranges.proofs.Interval.{mul-in}
 use Rattle.tracker.specs.Constants.{one, dahGapFrac, cvMax}
 use Rattle.tracker.specs.declared.inner.resolve.Gaps.{Gaps}
 use Rattle.tracker.specs.Model.{Pair, Tracker, withPair}
 use Rattle.tracker.specs.Parts.{Banded}
 use Rattle.tracker.specs.Steps.{inBand, consIf, band, agree, deviation, unsure, gapsSayDahs, turned, timed, bound, resolved}
+use Rattle.tracker.specs.Sound.{pairSound}
 use Rattle.tracker.proofs.Ringing.{both}
 use Rattle.tracker.proofs.Starting.{put-end}
-use Rattle.tracker.specs.Sound.{pairSound}
 use Rattle.tracker.proofs.Soundness.{ready-in}
-use lib.Ieee.Bits.{is-true}
 
 -- ---- the loop: of the first i gaps those in the band are kept
 pub record Banding (lo : Float) (gaps : List Float) (b : Gaps) (i : ℕ) : Type 0 where

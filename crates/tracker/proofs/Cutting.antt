@@ -1,10 +1,8 @@
 -- The cut at the first largest neighbour ratio: its loop, and where it lies. Assumes nothing.
-use mathlib.Core.Path.{_≡_, refl, ap, sym, _∙_, subst}
+use mathlib.Core.Path.{_≡_, refl, ap, sym, _∙_}
 use mathlib.Core.Bool.{Bool, true, false, cond}
-use mathlib.Core.List.{List, [], _∷_, _++_}
-use mathlib.Core.Logic.{_⊎_, inl, inr}
+use mathlib.Core.List.{List, [], _∷_}
 use Prim.Native.Nat.{ℕ, zero, suc, _+_, _-_, _*_, _≤_, _<_}
-use native.Mathlib.Nat.{le-antisymm}
 use native.Mathlib.Numerals.{add-one}
 use native.Mathlib.Omega.{arith}
 use lib.Seq.{length-take-le, getD-take, take-all}
@@ -12,7 +10,6 @@ use lib.IntN.{pos}
 use lib.Dec.{T}
 use lib.ListN.{length, take, drop, getD, length-take, length-drop, drop-of-length-le}
 use lib.Ieee.{Float, nan, fin, binary32, div, lt, le, ofBits, fits}
-use lib.Ieee.Fits.{and-i, and-l, and-r}
 use lib.Ieee.Positive.{positive, den, between, positive-finite}
 use Rattle.ranges.specs.Limits.{nought, durationMin, durationMax}
 use Rattle.ranges.specs.Interval.{In, AllIn}
@@ -21,12 +18,12 @@ use Rattle.ranges.proofs.Rounded.{Rounded, rounded-mono, div-rounded}
 use Rattle.ranges.proofs.Own.{own-rounded}
 use Rattle.ranges.proofs.Compare.{passed}
 use Rattle.ranges.specs.Mean.{meanOf}
+use Rattle.ranges.specs.Settings.{Settings}
 use Rattle.tracker.specs.Parts.{Halved}
 use Rattle.tracker.specs.declared.inner.lock.Halves.{Halves}
-use Rattle.ranges.specs.Settings.{Settings}
 use Rattle.tracker.specs.Model.{Pair, viewPair}
 use Rattle.tracker.specs.Constants.{two}
-use Rattle.tracker.specs.Lock.{lesser, greater, insert, insertAll, sorted, ratios, firstLargest, cut, parts, bimodal, unimodal, locked, initialized}
+use Rattle.tracker.specs.Lock.{greater, insert, insertAll, sorted, ratios, firstLargest, cut, parts, bimodal, unimodal, locked, initialized}
 
 pub ratios-long : (s : List Float) → length (ratios s) ≡ length s - 1
 unfolding ratios

@@ -4,13 +4,12 @@ use mathlib.Core.Bool.{true, false}
 use mathlib.Core.List.{[], _∷_}
 use lib.IntN.{pos}
 use lib.Ieee.{Float, fin, size, round, ofInt, toBits, ofBits, add, sub, mul, div, neg, lt, le}
-use Rattle.numbers.specs.Root.{rootOf, floorRoot, rootIn}
+use Rattle.numbers.specs.Root.{rootOf, floorRoot, rootIn, sqrtOf}
 use Rattle.numbers.specs.Values.{narrow}
 use Rattle.numbers.specs.Log.{lnSaid, lnOf, digits}
 use Rattle.ranges.specs.Mean.{sumFrom, squaresFrom}
 use Rattle.ranges.specs.Settings.{standard}
 use Rattle.tracker.specs.Model.{Pair, all}
-use Rattle.numbers.specs.Root.{sqrtOf}
 use Rattle.tracker.specs.Lock.{insert, insertAll, ratios, firstLargest, locked, constrained, learnt, started}
 use Rattle.tracker.specs.Steps.{fresh, onMark, anchor, checked}
 use Rattle.tracker.specs.Examples.{whole, fed, AllHold, settled}

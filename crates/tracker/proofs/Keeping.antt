@@ -1,24 +1,22 @@
 -- Sound stays sound: what each definition makes of a sound tracker, for every good settings record. Assumes nothing.
 use mathlib.Core.Path.{_≡_, refl, ap, sym, _∙_, subst}
 use mathlib.Core.Bool.{Bool, true, false, not, cond, _&&_, _||_}
-use mathlib.Core.List.{List, [], _∷_, _++_, map}
+use mathlib.Core.List.{List, [], _∷_, _++_}
 use mathlib.Core.Option.{Option, none, some}
-use Prim.Native.Nat.{ℕ, zero, suc, _+_, _-_, _≤_, _<_}
-use native.Mathlib.Nat.{le-of-lt}
+use Prim.Native.Nat.{ℕ, _+_, _-_, _≤_}
 use native.Mathlib.Omega.{arith}
 use lib.Dec.{T, eqb, leb, leb→le}
-use lib.ListN.{length, take, drop, length-append, length-take, length-drop, length-map}
+use lib.ListN.{length, take, drop, length-append, length-drop, length-map}
 use lib.Seq.{length-take-le}
-use lib.Ieee.{Float, binary32, add, sub, mul, div, lt, le, eq, isNan, fits, ofBits}
+use lib.Ieee.{Float, binary32, sub, mul, div, lt, eq, isNan, fits, ofBits}
 use lib.Ieee.Scale.{finite}
 use lib.Ieee.Positive.{positive, between, positive-finite}
 use lib.Ieee.Fits.{add-fits, mul-fits, div-fits}
-use borrow.Author.Tests.{eqb-true, eqb-false}
-use Rattle.numbers.specs.Values.{narrow}
-use Rattle.ranges.specs.Settings.{Settings, Good, Held}
-use Rattle.ranges.specs.Limits.{nought, durationMin, durationMax, dahMin, dahMax, idealRatio, half, paris, speedWeight}
-use Rattle.ranges.specs.Interval.{In, AllIn, within}
+use borrow.Author.Tests.{eqb-false}
 use Rattle.order.specs.Order.{clamp}
+use Rattle.ranges.specs.Settings.{Settings, Good, Held}
+use Rattle.ranges.specs.Limits.{durationMin, durationMax, dahMin, dahMax, paris, speedWeight}
+use Rattle.ranges.specs.Interval.{In, AllIn, within}
 use Rattle.ranges.specs.Average.{average}
 use Rattle.ranges.specs.Mean.{mean64, meanOf}
 use Rattle.ranges.proofs.Compare.{passed}
@@ -32,14 +30,14 @@ use Rattle.ranges.proofs.Good as G
 use Rattle.ranges.proofs.Good.{speedLeast, speedMost}
 use Rattle.tracker.specs.declared.RingEntry.{RingEntry}
 use Rattle.tracker.specs.Constants.{two, three}
-use Rattle.tracker.specs.Model.{Pair, Tracker, withPair, withInit, withRing, withWpm, withRecent, withEgap, withRegime, withRecovered, withUncorroborated, pushed, all}
-use Rattle.tracker.specs.Lock.{sorted, cut, parts, bimodal, asDahs, asDits, unimodal, locked, initialized, ratioOr, mended, constrained, anchorsDit, anchorsDah, moved, learnt, started, observed, boundary}
-use Rattle.tracker.specs.Sound.{duration, allDurations, centroids, plusZero, pairSound, entrySound, ringSound, positiveOr, hintSound, proper}
-use Rattle.tracker.specs.Steps.{durations, estimate, ditEstimate, speed, timed, averaged, bound, allClassed, uniform, drifts, fragment, relocked, drifted, recoveredBy, checked, entry, rung, spoken, followed, opened, onMark, seedPair, seedDit, seeded, setHint, gapMoved, onGap, bootstrapped, canBegin, reseeded, settled, turned, resolved, gapsSayDahs, unsure, fresh, elementGap, elementGaps, fromMarks, otherPair, hasOther, threeToOne}
+use Rattle.tracker.specs.Model.{Pair, Tracker, withPair, withInit, withRing, withRecent, withEgap, withRecovered, withUncorroborated, pushed, all}
+use Rattle.tracker.specs.Lock.{sorted, cut, parts, bimodal, asDahs, asDits, unimodal, locked, initialized, ratioOr, constrained, anchorsDit, anchorsDah, moved, learnt, started, observed, boundary}
+use Rattle.tracker.specs.Sound.{duration, allDurations, centroids, pairSound, entrySound, ringSound, positiveOr, hintSound}
+use Rattle.tracker.specs.Steps.{durations, estimate, ditEstimate, speed, timed, averaged, bound, allClassed, uniform, drifts, fragment, relocked, drifted, recoveredBy, checked, entry, rung, spoken, followed, opened, onMark, seedPair, seedDit, seeded, setHint, gapMoved, onGap, bootstrapped, canBegin, reseeded, settled, turned, resolved, gapsSayDahs, unsure, fresh, elementGap, elementGaps, fromMarks, otherPair}
 use Rattle.tracker.proofs.Cutting.{sorted-in, sorted-long, take-in, drop-in, parts-two, cut-inside}
 use Rattle.tracker.proofs.Starting.{append-in}
 use Rattle.tracker.proofs.Ringing.{both, inside, durations-in, ring-in}
-use Rattle.tracker.proofs.Soundness.{join, outside, pushed-all, pushed-some, pushed-most, none-all, pair-init, ready-centroids, ready-in, unready-zero, unready-few, ready-sound, unready-sound, Fine, fine, proper-of}
+use Rattle.tracker.proofs.Soundness.{join, outside, pushed-all, pushed-some, pushed-most, none-all, pair-init, ready-centroids, ready-in, unready-zero, unready-few, ready-sound, unready-sound, Fine, fine}
 
 -- ---- by the two cases of a test
 pub by-cond : {A : Type 0} (P : A → Type 0) (b : Bool) (x y : A) → (b ≡ true → P x) → (b ≡ false → P y) → P (cond b x y)

@@ -14,3 +14,5 @@ pub mod Stored
 pub mod Banding
 pub mod Rivalling
 pub mod Answering
+pub mod Staying
+pub mod Ordered

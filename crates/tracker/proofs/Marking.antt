@@ -1,21 +1,17 @@
 -- One mark, step by step as the code takes it. Assumes nothing.
-use mathlib.Core.Path.{_≡_, refl, ap, sym, _∙_, subst}
-use mathlib.Core.Bool.{Bool, true, false, cond, _&&_}
-use mathlib.Core.List.{List}
-use Prim.Native.Nat.{ℕ, _≤_}
+use mathlib.Core.Path.{_≡_, ap, sym, _∙_, subst}
+use mathlib.Core.Bool.{Bool, true, false, cond}
 use native.Mathlib.Omega.{arith}
 use lib.Dec.{T, eqb}
-use lib.ListN.{length, take}
 use lib.Ieee.{Float}
 use Rattle.ranges.specs.Settings.{Settings, standard}
 use Rattle.tracker.specs.declared.RingEntry.{RingEntry}
-use Rattle.tracker.specs.declared.SpeedTracker.{SpeedTracker}
-use Rattle.tracker.specs.Model.{Pair, Tracker, view, withPair, withRecent, withUncorroborated, pushed}
-use Rattle.tracker.specs.Parts.{Counted, Drivable, Checkable}
+use Rattle.tracker.specs.Model.{Pair, Tracker, withPair, withRecent, withUncorroborated, pushed}
+use Rattle.tracker.specs.Parts.{Drivable}
 use Rattle.tracker.specs.Lock.{learnt, started, observed}
-use Rattle.tracker.specs.Sound.{duration, centroids, entrySound, sound}
+use Rattle.tracker.specs.Sound.{duration, centroids, entrySound}
 use Rattle.tracker.specs.Steps.{bound, entry, rung, checked, spoken, followed, opened, onMark}
-use Rattle.tracker.proofs.Soundness.{join, pushed-all, pushed-some, Fine, counts, sound-fine, unready-few}
+use Rattle.tracker.proofs.Soundness.{join, pushed-all, pushed-some, Fine}
 
 -- ---- a tracker that was ready
 module _ (k : Settings) (p : Pair) (d : Float) (u c : Tracker) (x : RingEntry) (C : c ≡ bound k u) (X : x ≡ entry p (c .pair) d) where

@@ -1,24 +1,21 @@
 -- A check for drift, by its tests. Assumes nothing.
 use mathlib.Core.Path.{_≡_, refl, ap, sym, _∙_, subst}
-use mathlib.Core.Bool.{Bool, true, false, not, cond, _&&_, _||_}
-use mathlib.Core.List.{List, [], _∷_, _++_}
-use Prim.Native.Nat.{ℕ, _+_, _≤_, min, _<_}
-use native.Mathlib.Nat.{le-antisymm}
+use mathlib.Core.Bool.{Bool, true, false, not, cond, _||_}
+use mathlib.Core.List.{List, [], _∷_}
+use Prim.Native.Nat.{ℕ, _≤_}
 use native.Mathlib.Omega.{arith}
 use lib.Dec.{T, leb, leb→le}
 use lib.ListN.{length, take, getD, length-map, length-take}
 use lib.Seq.{length-take-le, take-take, take-all}
 use lib.Ieee.{Float}
 use Rattle.ranges.specs.Settings.{Settings, standard}
-use Rattle.ranges.specs.Limits.{durationMin, durationMax}
-use Rattle.ranges.specs.Interval.{AllIn}
 use Rattle.ranges.proofs.Compare.{passed}
 use Rattle.tracker.specs.declared.RingEntry.{RingEntry}
 use Rattle.tracker.specs.declared.SpeedTracker.{SpeedTracker}
 use Rattle.tracker.specs.Model.{Tracker, view, withPair}
-use Rattle.tracker.specs.Parts.{Counted, Full, Checkable}
+use Rattle.tracker.specs.Parts.{Full, Checkable}
 use Rattle.tracker.specs.Sound.{ringSound}
-use Rattle.tracker.specs.Steps.{durations, allClassed, uniform, drifts, fragment, drifted, recoveredBy, relocked, checked, timed, bound, canBegin, bootstrapped, reseeded}
+use Rattle.tracker.specs.Steps.{durations, allClassed, uniform, drifts, fragment, drifted, recoveredBy, checked, timed, bound, canBegin, bootstrapped, reseeded}
 use Rattle.tracker.specs.Lock.{initialized}
 use Rattle.tracker.proofs.Ringing.{both, whole}
 

@@ -1,28 +1,27 @@
 -- The loops over the ring, and what a sound ring gives. Assumes nothing.
-use mathlib.Core.Path.{_≡_, refl, ap, sym, _∙_, subst}
-use mathlib.Core.Bool.{Bool, true, false, not, cond, _&&_, _||_}
-use mathlib.Core.List.{List, [], _∷_, _++_, map}
-use Prim.Native.Nat.{ℕ, zero, suc, _+_, _≤_, _<_}
-use native.Mathlib.Nat.{le-antisymm}
+use mathlib.Core.Path.{_≡_, refl, ap, sym, _∙_}
+use mathlib.Core.Bool.{Bool, true, false, not, _&&_, _||_}
+use mathlib.Core.List.{List, [], _∷_, _++_}
+use mathlib.Core.Option.{some}
+use Prim.Native.Nat.{ℕ, _+_, _≤_, _<_}
 use native.Mathlib.Numerals.{add-one}
 use native.Mathlib.Omega.{arith}
-use lib.Dec.{T, leb, lit<}
-use lib.ListN.{length, take, drop, getD, set, length-set, length-map, drop-of-length-le}
-use lib.Seq.{take-suc-set, take-suc, drop-cons, take-all, length-take-le, getD-take}
+use lib.Dec.{T, lit<}
+use lib.ListN.{length, take, getD, set, length-set, length-map}
+use lib.Seq.{take-suc-set, take-suc, take-all, length-take-le, getD-take}
 use lib.Ieee.{Float, nan, isNan, ofBits, binary32, le, lt, mul}
 use lib.Ieee.Fits.{and-l, and-r}
 use borrow.Author.Tests.{le-leb, lt-leb}
-use Rattle.ranges.specs.Settings.{Settings, Good, standard}
+use Rattle.ranges.specs.Settings.{Settings, standard}
 use Rattle.ranges.specs.Limits.{durationMin, durationMax, dahMin, dahMax}
 use Rattle.ranges.specs.Interval.{In, AllIn, within}
 use Rattle.ranges.proofs.Signed.{finite-number}
 use Rattle.ranges.proofs.Interval.{in-finite}
-use Rattle.tracker.specs.declared.RingEntry.{RingEntry}
-use mathlib.Core.Option.{some}
 use Rattle.ranges.specs.Mean.{mean64}
+use Rattle.tracker.specs.declared.RingEntry.{RingEntry}
 use Rattle.tracker.specs.Constants.{cvMax, offFrac, dahGapFrac}
 use Rattle.tracker.specs.Lock.{sorted}
-use Rattle.tracker.specs.Steps.{durations, classed, allClassed, anchor, uniform, deviation, offset, drifts, gapSaysDahs}
+use Rattle.tracker.specs.Steps.{durations, allClassed, anchor, uniform, deviation, offset, drifts, gapSaysDahs}
 use Rattle.tracker.specs.Model.{all}
 use Rattle.tracker.specs.Sound.{allDurations, duration, centroids, entrySound, ringSound}
 

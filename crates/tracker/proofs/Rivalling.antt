@@ -1,32 +1,31 @@
 -- Trackers made from marks, and three-to-one readings, step by step as the code takes them. Assumes nothing.
-use mathlib.Core.Path.{_≡_, refl, ap, sym, _∙_, subst}
+use mathlib.Core.Path.{_≡_, refl, ap, sym, _∙_}
 use mathlib.Core.Bool.{Bool, true, false, not, cond, _&&_}
 use mathlib.Core.List.{List, [], _∷_, _++_}
-use mathlib.Core.Option.{Option, none, some}
-use Prim.Native.Nat.{ℕ, zero, suc, _+_, _≤_, _<_}
+use mathlib.Core.Option.{none, some}
+use Prim.Native.Nat.{ℕ, suc, _+_, _≤_, _<_}
 use native.Mathlib.Numerals.{add-one}
 use native.Mathlib.Omega.{arith}
 use lib.Dec.{T}
 use lib.Ieee.Bits.{is-true}
-use Rattle.ranges.proofs.Compare.{passed}
-use Rattle.tracker.proofs.Ringing.{both}
-use lib.ListN.{length, take, drop, getD, set, length-set}
-use lib.Seq.{take-suc-set, take-suc, take-all, take-length, drop-cons}
-use lib.ListN.{drop-of-length-le}
+use lib.ListN.{length, take, drop, getD, set, length-set, drop-of-length-le}
+use lib.Seq.{take-suc-set, take-suc, take-all, drop-cons}
 use lib.Ieee.{Float, nan, binary32, mul, lt}
+use Rattle.ranges.proofs.Compare.{passed}
 use Rattle.ranges.specs.Settings.{Settings, standard}
-use Rattle.tracker.specs.declared.SpeedTracker.{SpeedTracker}
-use Rattle.tracker.specs.Model.{Pair, Tracker, view, withPair}
-use Rattle.tracker.specs.Parts.{Counted, other}
 use Rattle.ranges.specs.Limits.{durationMin, durationMax}
 use Rattle.ranges.specs.Interval.{AllIn}
 use Rattle.ranges.proofs.Standard.{standard-good, standard-held}
-use Rattle.tracker.proofs.Keeping.{gaps-pair, locked-up, rest-of, fresh-sane, timed-fine}
-use Rattle.tracker.proofs.Soundness.{sound-by, sound-fine, proper-of}
+use Rattle.tracker.specs.declared.SpeedTracker.{SpeedTracker}
+use Rattle.tracker.specs.Model.{Pair, Tracker, view, withPair}
+use Rattle.tracker.specs.Parts.{Counted, other}
 use Rattle.tracker.specs.Lock.{initialized}
 use Rattle.tracker.specs.Sound.{sound}
 use Rattle.tracker.specs.Steps.{fresh, timed, bound, elementGap, elementGaps, fromMarks, otherPair, hasOther, threeToOne, ditEstimate, onGap}
 use Rattle.tracker.specs.Constants.{two}
+use Rattle.tracker.proofs.Ringing.{both}
+use Rattle.tracker.proofs.Keeping.{gaps-pair, locked-up, rest-of, fresh-sane, timed-fine}
+use Rattle.tracker.proofs.Soundness.{sound-by, sound-fine, proper-of}
 
 -- ---- marks copied: the first i are
 pub record Filling (l out : List Float) (i : ℕ) : Type 0 where

@@ -1,24 +1,22 @@
 -- What soundness says, part by part, and how it is put together again. Assumes nothing.
-use mathlib.Core.Path.{_≡_, refl, ap, sym, _∙_, subst}
-use mathlib.Core.Bool.{Bool, true, false, not, cond, _&&_}
+use mathlib.Core.Path.{_≡_, sym, subst}
+use mathlib.Core.Bool.{Bool, true, false, cond, _&&_}
 use mathlib.Core.List.{List, [], _∷_, _++_}
-use mathlib.Core.Option.{Option, none, some}
-use Prim.Native.Nat.{ℕ, zero, suc, _+_, _-_, _≤_, _<_}
+use Prim.Native.Nat.{ℕ, zero, suc, _+_, _-_, _≤_}
 use native.Mathlib.Omega.{arith}
 use lib.Dec.{T, leb, leb→le, le→leb}
-use lib.ListN.{length, take, drop, length-append, length-drop}
+use lib.ListN.{length, drop, length-append, length-drop}
 use lib.Ieee.{Float, le}
 use lib.Ieee.Fits.{and-i}
-use lib.Ieee.Positive.{positive}
+use lib.Ieee.Bits.{is-true}
 use Rattle.ranges.specs.Settings.{Settings}
-use Rattle.ranges.specs.Limits.{durationMin, durationMax, dahMin, dahMax}
-use Rattle.ranges.specs.Interval.{In, AllIn, within}
+use Rattle.ranges.specs.Limits.{dahMin, dahMax}
+use Rattle.ranges.specs.Interval.{In, within}
+use Rattle.ranges.proofs.Compare.{passed}
 use Rattle.tracker.specs.declared.SpeedTracker.{SpeedTracker}
 use Rattle.tracker.specs.Model.{Pair, Tracker, view, pushed, all}
 use Rattle.tracker.specs.Parts.{Counted}
-use Rattle.tracker.specs.Sound.{duration, allDurations, centroids, plusZero, pairSound, ringSound, positiveOr, hintSound, proper, counted, sound}
-use lib.Ieee.Bits.{is-true}
-use Rattle.ranges.proofs.Compare.{passed}
+use Rattle.tracker.specs.Sound.{allDurations, centroids, plusZero, pairSound, ringSound, positiveOr, hintSound, proper, counted, sound}
 use Rattle.tracker.proofs.Ringing.{both, inside}
 
 pub join : (a b : Bool) → T a → T b → T (a && b)

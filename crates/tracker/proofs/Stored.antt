@@ -1,5 +1,5 @@
 -- What the machine's hold on a tracker says of its numbers: they are values of f32. Assumes nothing.
-use mathlib.Core.Path.{_≡_, refl}
+use mathlib.Core.Path.{_≡_}
 use mathlib.Core.Bool.{Bool, true, false}
 use lib.Dec.{T}
 use lib.ListN.{length}

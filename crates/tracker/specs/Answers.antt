@@ -1,6 +1,6 @@
 -- What the answers of a tracker's calls mean, and which refusal a call meets (document 01, "Refusals in checking order"). Definitions only.
 use mathlib.Core.Path.{_≡_}
-use mathlib.Core.Bool.{Bool, true, false, cond, _&&_}
+use mathlib.Core.Bool.{Bool, cond}
 use mathlib.Core.List.{List}
 use mathlib.Core.Option.{Option, none, some}
 use Prim.Native.Nat.{ℕ, zero, suc}
@@ -9,7 +9,6 @@ use lib.ListN.{length}
 use lib.Ieee.{Float}
 use lib.Ieee.Positive.{positive}
 use Rattle.ranges.specs.Settings.{Settings}
-use Rattle.ranges.specs.Limits.{durationRefusal}
 use Rattle.tracker.specs.declared.SpeedTracker.{SpeedTracker}
 use Rattle.tracker.specs.declared.Told.{Told}
 use Rattle.tracker.specs.declared.Told.the-variants as Tell

@@ -6,13 +6,13 @@ use Prim.Native.Nat.{ℕ, suc, _-_}
 use lib.Dec.{eqb}
 use lib.ListN.{length, take, drop, getD}
 use lib.Ieee.{Float, nan, binary32, mul, div, lt, le}
+use Rattle.numbers.specs.Root.{sqrtOf}
+use Rattle.order.specs.Order.{clamp}
 use Rattle.ranges.specs.Settings.{Settings}
 use Rattle.ranges.specs.Limits.{nought, idealRatio, half}
 use Rattle.ranges.specs.Interval.{within}
-use Rattle.order.specs.Order.{clamp}
 use Rattle.ranges.specs.Average.{average}
 use Rattle.ranges.specs.Mean.{meanOf}
-use Rattle.numbers.specs.Root.{sqrtOf}
 use Rattle.tracker.specs.Constants.{two, three}
 use Rattle.tracker.specs.Model.{Pair, withInit, withCentroids, withConfirmed}
 

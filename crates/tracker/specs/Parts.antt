@@ -4,12 +4,13 @@ use mathlib.Core.Bool.{Bool, true, false}
 use mathlib.Core.Option.{Option, none, some}
 use mathlib.Core.List.{List}
 use Prim.Native.Nat.{_≤_}
-use lib.ListN.{length, take, drop}
+use lib.ListN.{length, take, drop, replicate}
 use lib.Dec.{T}
-use lib.Ieee.{Float}
+use lib.Ieee.{Float, binary32, ofBits}
 use Rattle.ranges.specs.Settings.{standard}
 use Rattle.ranges.specs.Mean.{meanOf}
 use Rattle.tracker.specs.declared.inner.lock.Halves.{Halves}
+use Rattle.tracker.specs.declared.RingEntry.{RingEntry}
 use Rattle.tracker.specs.declared.SpeedTracker.{SpeedTracker}
 use Rattle.tracker.specs.declared.inner.resolve.Gaps.{Gaps}
 use Rattle.tracker.specs.Steps.{band}
@@ -53,3 +54,28 @@ pub record Banded (lo : Float) (gaps : List Float) (r : Gaps) : Type 0 where
 abbrev pub other : Bool → SpeedTracker → Option Tracker
 other true t = some (view t)
 other false t = none
+
+-- a fresh tracker, place by place
+abbrev pub zero : Float
+zero = ofBits binary32 0
+
+abbrev pub blankEntry : RingEntry
+blankEntry = record { «dur_ms» = zero; «assigned_dit» = false; «pre_lo» = zero; «pre_hi» = zero }
+
+abbrev pub blank : SpeedTracker
+blank = record {
+  pair = record { lo = zero; hi = zero; init = replicate 12 zero; «init_len» = 0; ready = false; confirmed = false; «placeholder_is_lo» = false; «lo_n» = 0 };
+  ring = replicate 12 blankEntry;
+  «ring_len» = 0;
+  «has_wpm» = false;
+  «wpm_ema» = zero;
+  recent = replicate 5 zero;
+  «recent_len» = 0;
+  «has_egap» = false;
+  «mu_egap_ms» = zero;
+  «has_hint» = false;
+  «ratio_hint» = zero;
+  regime = 0;
+  «badlock_recovered» = false;
+  «lo_uncorroborated» = false;
+}

@@ -1,13 +1,13 @@
 -- What makes a tracker sound (document 01, refusal 1). Definitions only.
-use mathlib.Core.Bool.{Bool, true, false, not, cond, _&&_}
-use mathlib.Core.List.{List, [], _∷_}
+use mathlib.Core.Bool.{Bool, true, not, cond, _&&_}
+use mathlib.Core.List.{List}
 use mathlib.Core.Option.{Option, none, some}
 use lib.Dec.{leb}
 use lib.ListN.{length}
 use lib.Ieee.{Float, eq}
 use lib.Ieee.Positive.{positive}
-use Rattle.ranges.specs.Settings.{Settings}
 use Rattle.order.specs.Order.{negative}
+use Rattle.ranges.specs.Settings.{Settings}
 use Rattle.ranges.specs.Limits.{nought, durationMin, durationMax, dahMin, dahMax}
 use Rattle.ranges.specs.Interval.{within}
 use Rattle.tracker.specs.declared.RingEntry.{RingEntry}

@@ -2,18 +2,18 @@
 use mathlib.Core.Bool.{Bool, true, false, not, cond, _&&_, _||_}
 use mathlib.Core.List.{List, [], _∷_, map}
 use mathlib.Core.Option.{Option, none, some}
-use Prim.Native.Nat.{ℕ, suc, _+_, _%_, _^_}
+use Prim.Native.Nat.{_+_, _%_, _^_}
 use lib.Dec.{eqb, leb}
 use lib.ListN.{length, getD}
-use lib.Ieee.{Float, nan, binary32, binary64, neg, add, sub, mul, div, lt, le}
+use lib.Ieee.{Float, nan, binary32, binary64, neg, sub, mul, div, lt, le}
 use lib.Ieee.Scale.{finite}
+use Rattle.numbers.specs.Root.{sqrtOf}
+use Rattle.order.specs.Order.{abs, clamp}
 use Rattle.ranges.specs.Settings.{Settings}
 use Rattle.ranges.specs.Limits.{nought, half, biasCap, paris, speedWeight}
 use Rattle.ranges.specs.Interval.{within}
 use Rattle.ranges.specs.Average.{average}
 use Rattle.ranges.specs.Mean.{mean64, varianceAbout}
-use Rattle.numbers.specs.Root.{sqrtOf}
-use Rattle.order.specs.Order.{abs, clamp}
 use Rattle.tracker.specs.Constants.{one, two, three, dahGapFrac, cvMax, offFrac}
 use Rattle.tracker.specs.declared.RingEntry.{RingEntry}
 use Rattle.tracker.specs.Model.{Pair, Tracker, withCentroids, withConfirmed, withPlaceholder, withPair, withRing, withWpm, withRecent, withEgap, withHint, withRegime, withRecovered, withUncorroborated, pushed, all}

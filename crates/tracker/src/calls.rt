@@ -23,6 +23,7 @@ ghost use Rattle.ranges.specs.Limits.{durationRefusal};
 ghost use Rattle.ranges.specs.Settings.{standard};
 ghost use Rattle.tracker.specs.Model.{view};
 ghost use Rattle.tracker.specs.Lock.{boundary};
+ghost use Rattle.tracker.specs.Parts.{blank};
 ghost use Rattle.tracker.specs.Sound.{sound};
 ghost use Rattle.tracker.specs.Steps.{bootstrapped, canBegin, ditEstimate, fresh, gapsSayDahs, onGap, onMark, reseeded, resolved, seeded, setHint, settled};
 ghost use Rattle.tracker.specs.Answers.{Answers, count, done, flag, listRefusal, number, ofCount, ofFlag, ofReading, ofTold, optional, speedRefusal, stateThen, unless};
@@ -30,7 +31,7 @@ ghost use Rattle.tracker.specs.Answers.{Answers, count, done, flag, list
 impl SpeedTracker {
     // A fresh tracker.
     pub fn new() -> SpeedTracker
-        ensures { λ r. ⌜ (view r ≡ fresh) × T (sound standard r) ⌝ }
+        ensures { λ r. ⌜ (r ≡ blank) × ((view r ≡ fresh) × T (sound standard r)) ⌝ }
     {
         begin::fresh()
     }

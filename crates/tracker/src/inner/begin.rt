@@ -12,13 +12,13 @@ ghost use lib.Ieee.Positive.{positive};
 ghost use Prim.Native.Nat.{_≤_};
 ghost use Rattle.ranges.specs.Settings.{standard};
 ghost use Rattle.tracker.specs.Model.{view, viewPair};
-ghost use Rattle.tracker.specs.Parts.{Counted};
+ghost use Rattle.tracker.specs.Parts.{Counted, blank};
 ghost use Rattle.tracker.specs.Sound.{sound};
 ghost use Rattle.tracker.specs.Steps.{fresh, canBegin, bootstrapped, seedPair, seedDit, seeded, reseeded};
 
 // A fresh tracker.
 pub fn fresh() -> SpeedTracker
-    ensures { λ r. ⌜ (view r ≡ fresh) × T (sound standard r) ⌝ }
+    ensures { λ r. ⌜ (r ≡ blank) × ((view r ≡ fresh) × T (sound standard r)) ⌝ }
 {
     let e = RingEntry {
         dur_ms: 0.0,

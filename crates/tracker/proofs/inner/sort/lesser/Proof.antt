@@ -1,13 +1,10 @@
+-- `tracker::inner::sort::lesser` meets its contract. Assumes nothing.
 use Rattle.tracker.proofs.inner.sort.lesser.Statement.{statement}
 use Rattle.tracker.proofs.inner.sort.lesser.Tie as tie
-use Rattle.tracker.proofs.inner.sort.lesser.Reads as reads
-use Rattle.tracker.proofs.inner.sort.lesser.Lts as lts
 
--- src/inner/sort.rt:7:1
 returns : tie.Need-returns
 returns c = rw (c .if1 .taken)
 
--- src/inner/sort.rt:7:1
 returns-2 : tie.Need-returns-2
 returns-2 c = rw (c .if1 .left)
 
