@@ -12,6 +12,7 @@ oracle compare LAYER [--seed S] [--seconds T | --count N]
                                    the same cases to both sides, up to the first difference (10 seconds from seed 1)
 oracle exhaustive [--threads N]    the f32 root and the logarithm over all 2^32 patterns (2 threads; minutes)
 oracle bench numbers               nanoseconds for each call, beside Rust's own
+oracle replay sender DIR           the list of calls for `sender_replay`, and what it must print: DIR/stdin and DIR/stdout
 ";
 
 /// What a command that needs manta's Rust says without it.
@@ -62,6 +63,23 @@ fn compare(name: &str, words: &[String]) -> Result<bool, String> {
     Ok((entry.report)(seed, limit))
 }
 
+/// Writes the files of a replaying program, from manta's Rust.
+#[cfg(manta)]
+fn replay(name: &str, folder: &str) -> Result<bool, String> {
+    let files = oracle::replay::files(name).ok_or_else(|| format!("nothing replays {name}"))?;
+    for (file, text) in [("stdin", files.stdin), ("stdout", files.stdout)] {
+        let path = std::path::Path::new(folder).join(file);
+        std::fs::write(&path, text).map_err(|e| format!("{}: {e}", path.display()))?;
+    }
+    Ok(true)
+}
+
+#[cfg(not(manta))]
+fn replay(_: &str, _: &str) -> Result<bool, String> {
+    println!("{NO_MANTA}");
+    Ok(false)
+}
+
 /// Whether the command found nothing wrong.
 fn command(words: &[String]) -> Result<bool, String> {
     let (first, rest) = words.split_first().ok_or("a command is wanted")?;
@@ -83,6 +101,7 @@ fn command(words: &[String]) -> Result<bool, String> {
             bench::numbers();
             Ok(true)
         }
+        ("replay", Some((name, [folder]))) => replay(name, folder),
         _ => Err("the command is not known".into()),
     }
 }
