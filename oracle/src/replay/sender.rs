@@ -6,7 +6,7 @@
 //! number, and the five classes: of a report, for E, and then of the statistics as they are afterwards.
 
 use super::{float, Files};
-use crate::hullathan::sender::SenderTiming as Plain;
+use crate::hullathan::sender::{ClassStats, SenderTiming as Plain};
 use crate::layers::sender::{plain, Call, Rust, Told};
 use crate::manta::timing::SenderTiming;
 
@@ -24,15 +24,10 @@ fn line(call: Call) -> String {
     format!("{letter} {class} {a:08X} {b:08X} {c:08X}\n")
 }
 
-/// Five classes: count, mean, variance; a class without observations has its count only.
+/// Five classes: mean, variance, count.
 fn classes(t: &Plain) -> String {
-    t.stats
-        .iter()
-        .map(|c| match c.n {
-            0 => " 00000000".to_string(),
-            n => format!(" {n:08X} {} {}", float(c.mean), float(c.var)),
-        })
-        .collect()
+    let class = |c: &ClassStats| format!(" {} {} {:08X}", float(c.mean), float(c.var), c.n);
+    t.stats.iter().map(class).collect()
 }
 
 fn answer(rust: &mut Rust, call: Call) -> String {
