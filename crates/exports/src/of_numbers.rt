@@ -72,7 +72,7 @@ pub extern "C" fn hullathan_narrow(v: f64, out: &mut f32) -> u8
 #[no_mangle]
 pub extern "C" fn hullathan_clamp32(v: f32, lo: f32, hi: f32, out: &mut f32) -> u8
     ensures { λ r. ⌜ r ≡ 0 ⌝ }
-    ensures { λ _. ⌜ now (out .exit) ≡ clamp v lo hi ⌝ }
+    ensures { λ _. ⌜ now (out .exit) ≡ clamp lo hi v ⌝ }
 {
     *out = order::clamp32(v, lo, hi);
     0

@@ -7,6 +7,7 @@ use native.Mathlib.Nat.{le-refl, le-trans, le-of-eq, le-of-lt, lt-of-lt-of-le, l
 use native.Mathlib.Decide.{decLe}
 use native.Mathlib.Omega.{arith}
 use lib.Dec.{T, leb, ltb, eqb, eqb→eq, ltb→lt, leb→le, lit≤, lit<}
+use lib.Count.{leadingZeros, leading-le}
 use lib.Pow.{pow-add, pow-pos, pow-mono, pow-lt, shl-lt}
 use lib.IntN.{ℤ, pos, negsuc}
 use lib.Ieee.{Float, nan, inf, fin, binary32, binary64, up, down, minus, size, fits, isNan, nanBits, ofBits, lt, round}
@@ -20,6 +21,7 @@ use Rattle.numbers.specs.Log.{digits, rise, fall, lead, fixed, scaled, l
 use Rattle.numbers.specs.Parts.{Parted}
 use Rattle.numbers.specs.declared.rounding.Parts.{Parts}
 use Rattle.numbers.proofs.Packs.{size-exact}
+use Rattle.numbers.proofs.Rounds.{size-53}
 use Rattle.numbers.proofs.Plain.{Plain}
 
 -- ---- what a format holds
@@ -190,16 +192,35 @@ logged v f q p a =
           ∙ ap lnOf (sym (q .2));
     }
 
+-- a significand of 53 digits has 11 leading zeros; with its leading one at bit 63, and then at bit 31, nothing of an f32 is lost
+pub zeros-11 : (sig : ℕ) → 2 ^ 52 ≤ sig → sig < 2 ^ 53 → leadingZeros 64 sig ≡ 11
+zeros-11 sig a b = go (leadingZeros 64 sig) (leading-le 64 sig) (size-53 sig a b)
+  where
+    go : (z : ℕ) → z ≤ 64 → 64 - z ≡ 53 → z ≡ 11
+    go z h e = omega arith
+
+pub lead-31 : (sig z : ℕ) → sig < 2 ^ 53 → z ≡ 11 → sig * 2 ^ z % 2 ^ 64 / 2 ^ 32 ≡ sig / 2 ^ 21
+lead-31 sig z h e = ap (λ (x : ℕ). sig * 2 ^ x % 2 ^ 64 / 2 ^ 32) e ∙ go sig h
+  where
+    go : (x : ℕ) → x < 2 ^ 53 → x * 2 ^ 11 % 2 ^ 64 / 2 ^ 32 ≡ x / 2 ^ 21
+    go x k = omega arith
+
 -- t is below 2 ^ 24, and H is what the code has for the larger part
-module _ (v : Float) (sig j t : ℕ) (G : Logged v sig j) (TL : t < 2 ^ 24) (TI : t ≡ digits 24 (sig / 2 ^ 21) 0) where
+module _ (v : Float) (sig j z t : ℕ) (G : Logged v sig j) (Z : z ≡ 11) (TL : t < 2 ^ 24) (TI : t ≡ digits 24 (sig * 2 ^ z % 2 ^ 64 / 2 ^ 32) 0) where
   abbrev H : ℕ
-  H = (j + 53) * 2 ^ 24 % 2 ^ 64 + t
+  H = (j + 64 - z) * 2 ^ 24 % 2 ^ 64 + t
 
   H-is : H ≡ (j + 53) * 2 ^ 24 + t
-  H-is = ap (λ (x : ℕ). x + t) (mod-eq-of-lt (go j (G .most)))
+  H-is = ap (λ (x : ℕ). x * 2 ^ 24 % 2 ^ 64 + t) (less j z Z) ∙ ap (λ (x : ℕ). x + t) (mod-eq-of-lt (go j (G .most)))
     where
+      less : (i y : ℕ) → y ≡ 11 → i + 64 - y ≡ i + 53
+      less i y h = omega arith
+
       go : (i : ℕ) → i < 1150 → (i + 53) * 2 ^ 24 < 2 ^ 64
       go i h = omega arith
+
+  T-is : t ≡ digits 24 (sig / 2 ^ 21) 0
+  T-is = TI ∙ ap (λ (x : ℕ). digits 24 x 0) (lead-31 sig z (G .small) Z)
 
   pub over-fits : (H - 18035507200) * 2977044472 < 2 ^ 64
   over-fits = go H j H-is (G .most)
@@ -217,13 +238,13 @@ module _ (v : Float) (sig j t : ℕ) (G : Logged v sig j) (TL : t < 2 ^ 24) (TI 
   over r h e =
       e
       ∙ ap scaled (sym (minus-yes H 18035507200 h) ∙ ap (λ (x : ℕ). minus x 18035507200) H-is)
-      ∙ G .is t TI
+      ∙ G .is t T-is
 
   pub under : (r : Float) → H < 18035507200 → r ≡ round binary32 true ((18035507200 - H) * 2977044472) (2 ^ 56) → r ≡ lnOf v
   under r h e =
       (e ∙ ap (λ (x : ℕ). round binary32 true (x * 2977044472) (2 ^ 56)) (step H h))
       ∙ ap scaled (sym (minus-no H 18035507200 h) ∙ ap (λ (x : ℕ). minus x 18035507200) H-is)
-      ∙ G .is t TI
+      ∙ G .is t T-is
     where
       step : (x : ℕ) → x < 18035507200 → 18035507200 - x ≡ suc (18035507200 - suc x)
       step x k = omega arith

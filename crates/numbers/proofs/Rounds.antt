@@ -4,7 +4,7 @@ use mathlib.Core.Path.{_≡_, refl, sym, ap, _∙_, subst}
 use mathlib.Core.Logic.{_⊎_, inl, inr}
 use mathlib.Core.Bool.{Bool}
 use Prim.Native.Nat.{ℕ, zero, suc, _+_, _-_, _*_, _/_, _%_, _^_, _≤_, _<_, compare}
-use native.Mathlib.Nat.{le-trans, le-of-eq, lt-of-lt-of-le, lt-of-le-of-lt, mul-assoc, mul-comm, mul-left-comm, mul-right-comm, mul-le-mul-right, mul-pos, le-div-iff-mul-le, div-lt-iff-lt-mul, mod-eq-of-lt, zero-mul, lt-of-not-le, not-le-of-lt}
+use native.Mathlib.Nat.{le-trans, le-of-eq, lt-of-lt-of-le, lt-of-le-of-lt, mul-assoc, mul-comm, mul-left-comm, mul-right-comm, mul-le-mul-right, mul-pos, le-div-iff-mul-le, div-lt-iff-lt-mul, mod-eq-of-lt, zero-mul, lt-irrefl, lt-of-not-le, not-le-of-lt, le-of-suc-le-suc, le-antisymm}
 use native.Mathlib.Decide.{decLe}
 use native.Mathlib.Omega.{arith}
 use lib.Dec.{lit≤, lit<}
@@ -217,3 +217,18 @@ ratio-is f s num k h =
   where
     go : (x : ℕ) → x ≤ 1074 → 1074 - x + x ≡ 1074
     go x g = omega arith
+
+-- an m from 2 ^ 52 below 2 ^ 53 has 53 digits
+pub size-53 : (m : ℕ) → 2 ^ 52 ≤ m → m < 2 ^ 53 → 64 - leadingZeros 64 m ≡ 53
+size-53 m a b =
+    let d = digits-of m (wide m b) (some m a) in
+    d .1 ∙ ap suc (le-antisymm (le-of-suc-le-suc (pow-back (d .0) 53 (lt-of-le-of-lt (d .2) b))) (le-of-suc-le-suc (pow-back 52 (suc (d .0)) (lt-of-le-of-lt a (d .3)))))
+  where
+    wide : (x : ℕ) → x < 2 ^ 53 → x < 2 ^ 64
+    wide x h = omega arith
+
+    some : (x : ℕ) → 2 ^ 52 ≤ x → x ≡ 0 → ⊥
+    some x h e = omega arith
+
+    pow-back : (i p : ℕ) → 2 ^ i < 2 ^ p → i < p
+    pow-back i p h = lt-of-not-le (λ (g : p ≤ i). lt-irrefl (2 ^ i) (lt-of-lt-of-le h (pow-mono g)))

@@ -27,10 +27,11 @@ nearPattern r =
     ((toBits binary64 r - 0x3800_0000_0000_0000 + 2 ^ 28) / 2 ^ 29)
     0
 
--- x times y after n steps, near the root of x, whose pattern is p
+-- 0.5 * x
 abbrev pub halfOf : Float → Float
 halfOf x = mul binary64 (ofBits binary64 0x3fe0_0000_0000_0000) x
 
+-- the same after three steps, as a pattern of f32
 abbrev pub estimate32Of : Float → ℕ
 estimate32Of v =
     cond (leb 0x7fe0_0000_0000_0000 (toBits binary64 v)) 0
@@ -44,6 +45,7 @@ certifies c v = ltb (2 ^ 23) c && ltb c (254 * 2 ^ 23) && not (lt (ofBits binary
 abbrev pub patternOf : ℕ → ℕ → ℕ
 patternOf m z = (1024 - z) * 2 ^ 52 % 2 ^ 64 + m * 2 ^ z % 2 ^ 64 / 2 ^ 11 % 2 ^ 52
 
+-- x times y after four steps, near the root of x, whose pattern is p
 abbrev pub nearRoot : ℕ → Float
 nearRoot p =
     let x = ofBits binary64 p in

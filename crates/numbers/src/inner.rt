@@ -18,9 +18,11 @@ pub fn ln_of(v: f32) -> f32
     ensures { λ r. ⌜ r ≡ lnOf v ⌝ }
 {
     let p = take_apart(v as f64);
-    let t = log_digits(p.sig >> 21);
+    // the leading one is brought to bit 63, and then to bit 31
+    let z = u64::leading_zeros(p.sig);
+    let t = log_digits((p.sig << z) >> 32);
     // E + 1075 places, and 1075
-    let hi = (((p.j as u64) + 53) << 24) + t;
+    let hi = (((p.j as u64) + 64 - z as u64) << 24) + t;
     let lo = 1075u64 << 24;
     if lo <= hi {
         return ratio32(false, (hi - lo) * 2977044472, 56);

@@ -2,9 +2,9 @@
 use mathlib.Core.Bool.{Bool, true, false, not, _&&_, _||_, cond}
 use lib.Ieee.{Float, nan, inf, fin, lt, eq, isNan}
 
--- `v.clamp(lo, hi)`, by Rust's two tests; where lo is above hi, or one is NaN, Rust panics and these tests decide
+-- `v.clamp(lo, hi)`, by two tests: a NaN stays as it is. Where lo is above hi, or one of them is NaN, Rust panics
 abbrev pub clamp : Float → Float → Float → Float
-clamp v lo hi = cond (lt v lo) lo (cond (lt hi v) hi v)
+clamp lo hi v = cond (lt v lo) lo (cond (lt hi v) hi v)
 
 -- `a.max(b)`: a NaN gives way to the other
 abbrev pub larger : Float → Float → Float

@@ -5,7 +5,7 @@ ghost use Rattle.order.specs.Order.{clamp, larger, abs, negative, totalL
 
 // v, or the limit that it is beyond: Rust's `v.clamp(lo, hi)`.
 pub fn clamp32(v: f32, lo: f32, hi: f32) -> f32
-    ensures { λ r. ⌜ r ≡ clamp v lo hi ⌝ }
+    ensures { λ r. ⌜ r ≡ clamp lo hi v ⌝ }
 {
     if v < lo {
         return lo;

@@ -3,7 +3,7 @@ use mathlib.Core.Bool.{Bool, true, false, not, cond}
 use lib.Dec.{T}
 use lib.Ieee.{Float, Format, fits, isNan, le, lt}
 use Rattle.ranges.specs.Interval.{In}
-use Rattle.ranges.specs.Clamp.{clamp}
+use Rattle.order.specs.Order.{clamp}
 use Rattle.ranges.proofs.Compare.{nlt→le}
 
 pub clamp-in : (lo hi x : Float) → T (not (isNan lo)) → T (not (isNan hi)) → T (not (isNan x)) → T (le lo lo) → T (le hi hi) → T (le lo hi) → In lo hi (clamp lo hi x)

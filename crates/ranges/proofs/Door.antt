@@ -36,21 +36,6 @@ not-positive (fin false m e) h = sym (is-false (ltb 0 m) (not-T (ltb 0 m) (λ t.
     clash : (a d : ℕ) → 0 < a → a * 1 ≤ 0 * d → ⊥
     clash a d p q = omega arith
 
--- ---- -∞ < x and x < ∞
-pub finite-is : (x : Float) → T (lt (inf true) x) → lt x (inf false) ≡ finite x
-unfolding lt
-finite-is nan h = absurd h
-finite-is (inf true) h = absurd h
-finite-is (inf false) h = refl
-finite-is (fin s m e) h = refl
-
-pub not-finite : (x : Float) → T (not (lt (inf true) x)) → false ≡ finite x
-unfolding lt
-not-finite nan h = refl
-not-finite (inf true) h = refl
-not-finite (inf false) h = absurd h
-not-finite (fin s m e) h = absurd h
-
 -- ---- the refusal of a duration, by what the tests gave
 pub refusal-is : (x : Float) (a b c : Bool) → finite x ≡ a → lt x durationMin ≡ b → lt durationMax x ≡ c → cond (not a) 5 (cond b 6 (cond c 7 0)) ≡ durationRefusal x
 refusal-is x a b c p q r =

@@ -7,7 +7,7 @@ use lib.Ieee.Positive.{positive, between, positive-finite}
 use Rattle.ranges.specs.Interval.{In, within}
 use Rattle.ranges.specs.Limits.{nought, durationMin, durationMax, dahMin, dahMax, idealRatio, paris, speedWeight, half, biasCap}
 use Rattle.ranges.specs.Settings.{Settings, Good, Limited, ratioLeast, ratioMost, ratioMiddle, ditLeast, ditMost, weightLeast, weightMost}
-use Rattle.ranges.specs.Clamp.{clamp}
+use Rattle.order.specs.Order.{clamp}
 use Rattle.ranges.specs.Average.{average}
 use Rattle.ranges.proofs.Signed.{le-self, le-neg, le-trans-float, finite-number, neg-finite}
 use Rattle.ranges.proofs.Rounded.{sub-number, div-number, scaled-number}

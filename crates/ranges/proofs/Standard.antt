@@ -7,7 +7,7 @@ use lib.Ieee.Positive.{positive}
 use Rattle.ranges.specs.Interval.{In, within}
 use Rattle.ranges.specs.Limits.{durationMin, durationMax, dahMin, dahMax, idealRatio, paris, half, biasCap}
 use Rattle.ranges.specs.Settings.{standard, Good, Held}
-use Rattle.ranges.specs.Clamp.{clamp}
+use Rattle.order.specs.Order.{clamp}
 use Rattle.ranges.specs.Average.{average}
 use Rattle.ranges.proofs.Interval.{div-in}
 use Rattle.ranges.proofs.Good as G

@@ -1,6 +1,5 @@
 pub mod Interval
 pub mod Limits
 pub mod Settings
-pub mod Clamp
 pub mod Average
 pub mod Mean

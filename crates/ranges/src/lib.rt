@@ -1,6 +1,6 @@
 // The tests of ranges that the layers above make at the door.
+use order::is_finite32;
 ghost use mathlib.Core.Path.{_≡_};
-ghost use lib.Ieee.Scale.{finite};
 ghost use lib.Ieee.Positive.{positive};
 ghost use Rattle.ranges.specs.Interval.{within};
 ghost use Rattle.ranges.specs.Limits.{durationMin, durationMax, durationRefusal};
@@ -10,17 +10,6 @@ pub fn within(x: f32, lo: f32, hi: f32) -> bool
     ensures { λ r. ⌜ r ≡ within lo hi x ⌝ }
 {
     lo <= x && x <= hi
-}
-
-// Whether x is neither NaN nor infinite.
-pub fn is_finite(x: f32) -> bool
-    ensures { λ r. ⌜ r ≡ finite x ⌝ }
-{
-    let top = f32::from_bits(0x7f80_0000);
-    if -top < x {
-        return x < top;
-    }
-    false
 }
 
 // Whether x is finite and above zero.
@@ -45,7 +34,7 @@ pub fn is_duration(x: f32) -> bool
 pub fn duration_refusal(x: f32) -> u8
     ensures { λ r. ⌜ r ≡ durationRefusal x ⌝ }
 {
-    if is_finite(x) {
+    if is_finite32(x) {
         if x < 0.015625 {
             return 6;
         }

@@ -85,11 +85,11 @@ boundary-finite a none i h = rw nominal-root (nominal-finite a i)
 boundary-finite a (some w) i h = root-finite (mul binary32 a (w .mean)) (mul-fits binary32 a (w .mean)) (product-positive a (w .mean) i (mean-in w h))
 
 -- "Clamped to" 3 to 12: where there is a char gap there is a boundary, and it lies there
-pub boundary-in : (a : Float) (w : Option Class) → In classMin classMax a → T (classSound w) → In wordMin wordMax (clamp (boundary a w) wordMin wordMax)
+pub boundary-in : (a : Float) (w : Option Class) → In classMin classMax a → T (classSound w) → In wordMin wordMax (clamp wordMin wordMax (boundary a w))
 unfolding isNan le ofBits
 boundary-in a w i h = C.clamp-in wordMin wordMax (boundary a w) tt tt (finite-number (boundary a w) (boundary-finite a w i h)) tt tt tt
 
-pub word-is : (c : Class) (w : Option Class) → T (classSound (some c)) → T (classSound w) → wordDits (some c) w ≡ some (clamp (boundary (c .mean) w) wordMin wordMax)
+pub word-is : (c : Class) (w : Option Class) → T (classSound (some c)) → T (classSound w) → wordDits (some c) w ≡ some (clamp wordMin wordMax (boundary (c .mean) w))
 unfolding wordDits
 word-is c w h k = rw (is-true (finite (boundary (c .mean) w)) (boundary-finite (c .mean) w (mean-in c h) k))
 
@@ -134,7 +134,7 @@ ratio-of dot dash h k m n =
     let f = seen dash (many (dash .n) n) in
     ap₂ ratio e f ∙ ratio-is _ _ (subst (λ (o : Option Class). T (classSound o)) e h) (subst (λ (o : Option Class). T (classSound o)) f k) (le-leb ratioCount (dot .n) m) (le-leb ratioCount (dash .n) n)
 
-pub word-of : (c w : ClassStats) → T (classSound (viewClass c)) → T (classSound (viewClass w)) → (c .n ≡ 0 → ⊥) → wordDits (viewClass c) (viewClass w) ≡ some (clamp (boundary (c .mean .0) (viewClass w)) wordMin wordMax)
+pub word-of : (c w : ClassStats) → T (classSound (viewClass c)) → T (classSound (viewClass w)) → (c .n ≡ 0 → ⊥) → wordDits (viewClass c) (viewClass w) ≡ some (clamp wordMin wordMax (boundary (c .mean .0) (viewClass w)))
 word-of c w h k n =
     let e = seen c n in
     ap (λ (o : Option Class). wordDits o (viewClass w)) e ∙ word-is _ (viewClass w) (subst (λ (o : Option Class). T (classSound o)) e h) k
@@ -144,8 +144,8 @@ said-in : (o w : Option Class) (x : Float) → T (classSound o) → T (classSoun
 unfolding wordDits
 said-in none w x h k e = let z : _≡_ {A = ℕ} 0 1 = cc in absurd (lt-irrefl 0 (subst (λ (n : ℕ). 0 < n) (sym z) (zero-lt-suc 0)))
 said-in (some c) w x h k e =
-    let d : length (clamp (boundary (c .mean) w) wordMin wordMax) ≡ length x = sym (ap (optional length) (word-is c w h k)) ∙ e in
-    let q : clamp (boundary (c .mean) w) wordMin wordMax ≡ x = cc in
+    let d : length (clamp wordMin wordMax (boundary (c .mean) w)) ≡ length x = sym (ap (optional length) (word-is c w h k)) ∙ e in
+    let q : clamp wordMin wordMax (boundary (c .mean) w) ≡ x = cc in
     subst (In wordMin wordMax) q (boundary-in (c .mean) w (mean-in c h) k)
 
 pub word-said-in : (t : Timing) (x : Float) → unless (stateRefusal t) (wordSaid t) ≡ length x → In wordMin wordMax x

@@ -1,5 +1,5 @@
 -- What a count says of a class's view; a class taken out of statistics, and one put in. Assumes nothing.
-use mathlib.Core.Path.{_≡_, refl}
+use mathlib.Core.Path.{_≡_, refl, sym, ap, _∙_}
 use mathlib.Core.Bool.{Bool, _&&_}
 use mathlib.Core.Option.{Option, none, some}
 use Prim.Native.Nat.{ℕ}
@@ -35,6 +35,24 @@ view-with Dash c s = refl
 view-with ElementGap c s = refl
 view-with CharGap c s = refl
 view-with WordGap c s = refl
+
+-- ---- only one class differs
+pub alone : (k : TimingClass) (c : ClassStats) (s r : SenderTiming) → r ≡ withStats k c s → r ≡ withStats k (statsOf k r) s
+alone k c s r e = e ∙ ap (λ (d : ClassStats). withStats k d s) (sym (ap (statsOf k) e ∙ put-back k c s))
+  where
+    put-back : (k : TimingClass) (c : ClassStats) (s : SenderTiming) → statsOf k (withStats k c s) ≡ c
+    put-back Dot c s = refl
+    put-back Dash c s = refl
+    put-back ElementGap c s = refl
+    put-back CharGap c s = refl
+    put-back WordGap c s = refl
+
+pub unchanged : (k : TimingClass) (s : SenderTiming) → s ≡ withStats k (statsOf k s) s
+unchanged Dot s = refl
+unchanged Dash s = refl
+unchanged ElementGap s = refl
+unchanged CharGap s = refl
+unchanged WordGap s = refl
 
 -- ---- five tests
 pub record Five (a b c d e : Bool) : Type 0 where

@@ -66,7 +66,7 @@ boundary cg (some w) = sqrtOf binary32 (mul binary32 cg (w .mean))
 unfoldable pub wordDits : Option Class → Option Class → Option Float
 unfolding boundary
 wordDits none w = none
-wordDits (some c) w = cond (finite (boundary (c .mean) w)) (some (clamp (boundary (c .mean) w) wordMin wordMax)) none
+wordDits (some c) w = cond (finite (boundary (c .mean) w)) (some (clamp wordMin wordMax (boundary (c .mean) w))) none
 
 -- the average char gap, else 0
 unfoldable pub charGapOr : Timing → Float

@@ -2,8 +2,8 @@
 use crate::ClassStats;
 use crate::Millis;
 use crate::SenderTiming;
+use order::is_finite32;
 use ranges::duration_refusal;
-use ranges::is_finite;
 use ranges::within;
 ghost use mathlib.Core.Path.{_≡_};
 ghost use Rattle.sender.specs.Model.{view, viewClass};
@@ -19,7 +19,7 @@ pub fn is_class_sound(s: ClassStats) -> bool
     }
     if within(s.mean.0, 0.0001, 13108.0) {
         if 0.0 <= s.var {
-            return is_finite(s.var);
+            return is_finite32(s.var);
         }
     }
     false

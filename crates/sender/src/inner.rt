@@ -98,6 +98,7 @@ pub fn observe(s: SenderTiming, class: TimingClass, dur_ms: Millis, dit_ms: Mill
     requires { ⌜ In durationMin durationMax («dur_ms» .0) ⌝ }
     requires { ⌜ In ditMin ditMax («dit_ms» .0) ⌝ }
     ensures { λ r. ⌜ (view r ≡ observed class (dits («dur_ms» .0) («dit_ms» .0)) (view s)) × T (sound (view r)) ⌝ }
+    ensures { λ r. ⌜ r ≡ withStats class (statsOf class r) s ⌝ }
 {
     let x = Dits(dur_ms.0 / dit_ms.0);
     let next = class_observe(stats(s, class), x);
@@ -108,11 +109,11 @@ pub fn observe(s: SenderTiming, class: TimingClass, dur_ms: Millis, dit_ms: Mill
 pub fn mean_dits(s: SenderTiming, class: TimingClass) -> Length
     ensures { λ r. ⌜ ofLength r ≡ meanSaid class (view s) ⌝ }
 {
-    let c = stats(s, class);
-    if c.n == 0 {
+    let known = stats(s, class);
+    if known.n == 0 {
         return Length::Absent;
     }
-    let mean = c.mean;
+    let mean = known.mean;
     Length::Is(mean)
 }
 

@@ -5,7 +5,7 @@ ghost use mathlib.Core.Path.{_≡_};
 ghost use lib.Ieee.{Float};
 ghost use Rattle.ranges.specs.Interval.{In};
 ghost use Rattle.sender.specs.Constants.{wordMin, wordMax};
-ghost use Rattle.sender.specs.Model.{number, view, blank};
+ghost use Rattle.sender.specs.Model.{number, view, blank, statsOf, withStats};
 ghost use Rattle.sender.specs.Steps.{observed, dits};
 ghost use Rattle.sender.specs.Answers.{ofTold, ofLength, ofRatio, ofYes, ofReport, unless, done, length, stateRefusal, observeRefusal, Left, meanSaid, ratioSaid, wordSaid, pauseSaid, reported};
 
@@ -139,10 +139,11 @@ impl SenderTiming {
         }
     }
 
-    // One duration of a class, measured against a dit.
+    // One duration of a class, measured against a dit. No other class changes, bit for bit.
     pub fn observe(self, class: TimingClass, dur_ms: Millis, dit_ms: Millis) -> Observed
         ensures { λ r. ⌜ ofTold (r .told) ≡ unless (observeRefusal (view self) («dur_ms» .0) («dit_ms» .0)) done ⌝ }
         ensures { λ r. ⌜ Left (observeRefusal (view self) («dur_ms» .0) («dit_ms» .0)) self (observed class (dits («dur_ms» .0) («dit_ms» .0)) (view self)) (r .timing) ⌝ }
+        ensures { λ r. ⌜ r .timing ≡ withStats class (statsOf class (r .timing)) self ⌝ }
     {
         let why = observe_refusal(self, dur_ms, dit_ms);
         if why == 0 {

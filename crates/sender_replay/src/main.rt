@@ -109,15 +109,36 @@ fn run(t: SenderTiming, line: &[u8; 31]) -> SenderTiming {
     }
 }
 
-// A proved loop has to end: no list has so many lines.
+// One line in and one out: the statistics after it, and whether there was a line.
+struct After {
+    timing: SenderTiming,
+    more: bool,
+}
+
+fn step(t: SenderTiming) -> After {
+    let mut line = [0u8; 31];
+    if replay::next(&mut line) {
+        let timing = run(t, &line);
+        put_classes(timing);
+        put_byte(b'\n');
+        return After { timing, more: true };
+    }
+    After {
+        timing: t,
+        more: false,
+    }
+}
+
+// A proved loop has to end, so the turns are counted down from a number that no run uses up.
 fn main() {
     let mut t = calls::hullathan_sender_new();
-    let mut line = [0u8; 31];
-    let mut turns = 1000000;
-    while turns > 0 && replay::next(&mut line) {
-        t = run(t, &line);
-        put_classes(t);
-        put_byte(b'\n');
+    let mut turns = u64::MAX;
+    while turns > 0 {
+        let s = step(t);
+        t = s.timing;
         turns -= 1;
+        if !s.more {
+            turns = 0;
+        }
     }
 }

@@ -4,10 +4,10 @@ use Rattle.sender_replay.proofs.main.Statement.{statement}
 use Rattle.sender_replay.proofs.main.Tie as tie
 
 abbrev Inv-loop : tie.InvT-loop
-Inv-loop t₀ line₀ turns₀ t line turns = Unit {0}
+Inv-loop t₀ turns₀ t turns = Unit {0}
 
 abbrev μ-loop : tie.MeasureT-loop
-μ-loop t₀ line₀ turns₀ t line turns = turns
+μ-loop t₀ turns₀ t turns = turns
 
 hullathan-sender-new-requires : tie.Need-hullathan-sender-new-requires Inv-loop μ-loop
 hullathan-sender-new-requires c κs = tt
@@ -15,17 +15,8 @@ hullathan-sender-new-requires c κs = tt
 loop-holds : tie.Need-loop-holds Inv-loop μ-loop
 loop-holds c = tt
 
-next-requires : tie.Need-next-requires Inv-loop μ-loop
-next-requires c κs = tt
-
-run-requires : tie.Need-run-requires Inv-loop μ-loop
-run-requires c κs = tt
-
-put-classes-requires : tie.Need-put-classes-requires Inv-loop μ-loop
-put-classes-requires c κs = tt
-
-put-byte-requires : tie.Need-put-byte-requires Inv-loop μ-loop
-put-byte-requires c κs = tt
+step-requires : tie.Need-step-requires Inv-loop μ-loop
+step-requires c κs = tt
 
 sub-turns : tie.Need-sub-turns Inv-loop μ-loop
 sub-turns c = omega arith
@@ -36,11 +27,14 @@ loop-less c = omega arith
 loop-again : tie.Need-loop-again Inv-loop μ-loop
 loop-again c = tt
 
+loop-less-2 : tie.Need-loop-less-2 Inv-loop μ-loop
+loop-less-2 c = omega arith
+
+loop-again-2 : tie.Need-loop-again-2 Inv-loop μ-loop
+loop-again-2 c = tt
+
 returns : tie.Need-returns Inv-loop μ-loop
 returns c = tt
-
-returns-2 : tie.Need-returns-2 Inv-loop μ-loop
-returns-2 c = tt
 
 pub main-spec : {M : Type 1} → statement M
 main-spec =
@@ -50,12 +44,10 @@ main-spec =
     μ-loop
     hullathan-sender-new-requires
     loop-holds
-    next-requires
-    run-requires
-    put-classes-requires
-    put-byte-requires
+    step-requires
     sub-turns
     loop-less
     loop-again
-    returns
-    returns-2)
+    loop-less-2
+    loop-again-2
+    returns)

@@ -7,25 +7,10 @@ use lib.Pow.{pow-mono}
 use lib.Count.{leadingZeros}
 use lib.Ieee.{binary32}
 use lib.Ieee.Nearest.{closest}
-use Rattle.numbers.proofs.Rounds.{Word, word, digits-of}
+use Rattle.numbers.proofs.Rounds.{Word, word, size-53}
 use borrow.Author.Needs.{needs}
 use Rattle.numbers.proofs.rounding.normal32.Statement.{statement}
 use Rattle.numbers.proofs.rounding.normal32.Tie as tie
-
--- an m from 2 ^ 52 below 2 ^ 53 has 53 digits
-size-53 : (m : ℕ) → 2 ^ 52 ≤ m → m < 2 ^ 53 → 64 - leadingZeros 64 m ≡ 53
-size-53 m a b =
-    let d = digits-of m (wide m b) (some m a) in
-    d .1 ∙ ap suc (le-antisymm (le-of-suc-le-suc (pow-back (d .0) 53 (lt-of-le-of-lt (d .2) b))) (le-of-suc-le-suc (pow-back 52 (suc (d .0)) (lt-of-le-of-lt a (d .3)))))
-  where
-    wide : (x : ℕ) → x < 2 ^ 53 → x < 2 ^ 64
-    wide x h = omega arith
-
-    some : (x : ℕ) → 2 ^ 52 ≤ x → x ≡ 0 → ⊥
-    some x h e = omega arith
-
-    pow-back : (i p : ℕ) → 2 ^ i < 2 ^ p → i < p
-    pow-back i p h = lt-of-not-le (λ (g : p ≤ i). lt-irrefl (2 ^ i) (lt-of-lt-of-le h (pow-mono g)))
 
 kept : (c : tie.After-rounded) → Word binary32 (c .before .args .m) (c .before .args .j) (c .before .args .j - 896) (c .before .args .j + 29)
 kept c =

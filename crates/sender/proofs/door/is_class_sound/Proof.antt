@@ -17,14 +17,14 @@ returns c = rw (c .if1 .taken)
 within-requires : tie.Need-within-requires
 within-requires c κs = search needs
 
-is-finite-requires : tie.Need-is-finite-requires
-is-finite-requires c κs = search needs
+is-finite32-requires : tie.Need-is-finite32-requires
+is-finite32-requires c κs = search needs
 
 returns-2 : tie.Need-returns-2
 unfolding ofBits
 returns-2 c =
     let s = c .before .before .before .before .before .before .before .args .s in
-    class-sound-is (s .mean .0) (s .var) (s .n) true true _ (c .before .before .before .before .before .if1 .left) (sym (c .before .before .before .if2 .taken) ∙ c .before .before .before .before .within .ensures) (c .before .if3 .taken) (c .is-finite .ensures)
+    class-sound-is (s .mean .0) (s .var) (s .n) true true _ (c .before .before .before .before .before .if1 .left) (sym (c .before .before .before .if2 .taken) ∙ c .before .before .before .before .within .ensures) (c .before .if3 .taken) (c .is-finite32 .ensures)
 
 returns-3 : tie.Need-returns-3
 unfolding ofBits
@@ -39,4 +39,4 @@ returns-4 c =
 
 pub is-class-sound-spec : {M : Type 1} → statement M
 is-class-sound-spec =
-    tie.close (tie.spec returns within-requires is-finite-requires returns-2 returns-3 returns-4)
+    tie.close (tie.spec returns within-requires is-finite32-requires returns-2 returns-3 returns-4)

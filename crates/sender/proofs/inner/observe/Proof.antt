@@ -6,7 +6,7 @@ use borrow.Author.Needs.{needs}
 use Rattle.sender.specs.Model.{Class, Timing, put, view, viewClass}
 use Rattle.sender.specs.Sound.{classSound, sound}
 use Rattle.sender.specs.Steps.{dits, observedClass, observed}
-use Rattle.sender.proofs.Views.{at-view, view-with, sound-at, sound-put}
+use Rattle.sender.proofs.Views.{at-view, view-with, alone, sound-at, sound-put}
 use Rattle.sender.proofs.Samples.{dits-in}
 use Rattle.sender.proofs.inner.observe.Statement.{statement}
 use Rattle.sender.proofs.inner.observe.Tie as tie
@@ -31,8 +31,11 @@ returns c =
     let next = c .before .class-observe .result in
     let here = ap view (c .with-stats .ensures) ∙ view-with (a .class) next (a .s) in
     let was = ap viewClass (c .before .before .stats .ensures) ∙ at-view (a .class) (a .s) in (
-      here ∙ ap (λ (o : Option Class). put (a .class) o (view (a .s))) (c .before .class-observe .ensures .0 ∙ ap (λ (o : Option Class). some (observedClass o (dits (a .dur-ms .0) (a .dit-ms .0)))) was),
-      subst (λ (t : Timing). T (sound t)) (sym here) (sound-put (a .class) (viewClass next) (view (a .s)) (b .pre .0) (c .before .class-observe .ensures .1)),
+      (
+        here ∙ ap (λ (o : Option Class). put (a .class) o (view (a .s))) (c .before .class-observe .ensures .0 ∙ ap (λ (o : Option Class). some (observedClass o (dits (a .dur-ms .0) (a .dit-ms .0)))) was),
+        subst (λ (t : Timing). T (sound t)) (sym here) (sound-put (a .class) (viewClass next) (view (a .s)) (b .pre .0) (c .before .class-observe .ensures .1)),
+      ),
+      alone (a .class) next (a .s) (c .with-stats .result) (c .with-stats .ensures),
     )
 
 pub observe-spec : {M : Type 1} → statement M

@@ -27,7 +27,7 @@ returns-2 : tie.Need-returns-2
 returns-2 c =
     let b = c .before .before .before .before .before in
     let s = b .args .s in
-    ap length (c .clamp32 .ensures ∙ ap (λ (x : Float). clamp x wordMin wordMax) (c .before .boundary .ensures))
+    ap length (c .clamp32 .ensures ∙ ap (λ (x : Float). clamp wordMin wordMax x) (c .before .boundary .ensures))
     ∙ sym (ap (optional length) (word-of (s .«char_gap») (s .«word_gap») (sound-at CharGap (view s) (b .pre)) (sound-at WordGap (view s) (b .pre)) (c .before .before .if1 .left)))
 
 pub sender-word-dits-spec : {M : Type 1} → statement M
