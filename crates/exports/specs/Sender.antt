@@ -10,7 +10,7 @@ use Rattle.sender.specs.declared.TimingClass.{TimingClass}
 use Rattle.sender.specs.declared.TimingClass.the-variants.{Dot, Dash, ElementGap, CharGap, WordGap}
 use Rattle.sender.specs.declared.ClassStats.{ClassStats}
 use Rattle.sender.specs.declared.SenderTiming.{SenderTiming}
-use Rattle.sender.specs.Model.{Class, Timing, view, blankClass, blank}
+use Rattle.sender.specs.Model.{Class, Timing, view, blankClass, blank, statsOf, withStats}
 use Rattle.sender.specs.Steps.{observed, dits}
 use Rattle.sender.specs.Answers.{Answer, done, flag, length, ratio, absent, report, refused, unless, stateRefusal, observeRefusal, meanSaid, Left}
 use Rattle.exports.specs.declared.of_sender.Named.{Named}
@@ -90,7 +90,7 @@ reportedAs (flag b) = record { code = 0; «dit_ms» = nought; classes = blank }
 reportedAs (length x) = record { code = 0; «dit_ms» = nought; classes = blank }
 reportedAs (ratio x) = record { code = 0; «dit_ms» = nought; classes = blank }
 
--- what `observe`, handed s, leaves in r: what the library's own leaves, and s bit for bit where no class has the number
+-- what `observe`, handed s, leaves in r: what the library's own leaves, the other classes bit for bit; s where no class has the number
 abbrev pub LeftAt : Option TimingClass → Float → Float → SenderTiming → SenderTiming → Type 0
-LeftAt (some k) dur dit s r = Left (observeRefusal (view s) dur dit) s (observed k (dits dur dit) (view s)) r
+LeftAt (some k) dur dit s r = Left (observeRefusal (view s) dur dit) s (observed k (dits dur dit) (view s)) r × (r ≡ withStats k (statsOf k r) s)
 LeftAt none dur dit s r = r ≡ s
