@@ -1,0 +1,16 @@
+pub mod Examples
+pub mod Testing
+pub mod Sorting
+pub mod Summing
+pub mod Cutting
+pub mod Starting
+pub mod Shifting
+pub mod Ringing
+pub mod Relocking
+pub mod Soundness
+pub mod Keeping
+pub mod Marking
+pub mod Stored
+pub mod Banding
+pub mod Rivalling
+pub mod Answering

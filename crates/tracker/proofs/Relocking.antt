@@ -1,0 +1,103 @@
+-- A check for drift, by its tests. Assumes nothing.
+use mathlib.Core.Path.{_≡_, refl, ap, sym, _∙_, subst}
+use mathlib.Core.Bool.{Bool, true, false, not, cond, _&&_, _||_}
+use mathlib.Core.List.{List, [], _∷_, _++_}
+use Prim.Native.Nat.{ℕ, _+_, _≤_, min, _<_}
+use native.Mathlib.Nat.{le-antisymm}
+use native.Mathlib.Omega.{arith}
+use lib.Dec.{T, leb, leb→le}
+use lib.ListN.{length, take, getD, length-map, length-take}
+use lib.Seq.{length-take-le, take-take, take-all}
+use lib.Ieee.{Float}
+use Rattle.ranges.specs.Settings.{Settings, standard}
+use Rattle.ranges.specs.Limits.{durationMin, durationMax}
+use Rattle.ranges.specs.Interval.{AllIn}
+use Rattle.ranges.proofs.Compare.{passed}
+use Rattle.tracker.specs.declared.RingEntry.{RingEntry}
+use Rattle.tracker.specs.declared.SpeedTracker.{SpeedTracker}
+use Rattle.tracker.specs.Model.{Tracker, view, withPair}
+use Rattle.tracker.specs.Parts.{Counted, Full, Checkable}
+use Rattle.tracker.specs.Sound.{ringSound}
+use Rattle.tracker.specs.Steps.{durations, allClassed, uniform, drifts, fragment, drifted, recoveredBy, relocked, checked, timed, bound, canBegin, bootstrapped, reseeded}
+use Rattle.tracker.specs.Lock.{initialized}
+use Rattle.tracker.proofs.Ringing.{both, whole}
+
+pub full-count : (l : List RingEntry) (n : ℕ) → length l ≡ 12 → n ≤ 12 → uniform (take n l) ≡ true → n ≡ 12
+full-count l n h k e =
+    let p = both (leb 12 (length (take n l))) (allClassed true (take n l) || allClassed false (take n l)) (passed e) in
+    let q = leb→le 12 (length (take n l)) (p .0) in
+    let w = length-take-le n l (omega arith) in
+    omega arith
+
+pub full-of : (t : SpeedTracker) → length (t .ring) ≡ 12 → Checkable t → uniform (view t .ring) ≡ true → Full t
+full-of t h v e =
+    let n = full-count (t .ring) (t .«ring_len») h (v .counted .ring) e in
+    record { count = n; ring = subst (λ (l : List RingEntry). T (ringSound standard l)) (whole (t .ring) (t .«ring_len») h n) (v .drivable .ring) }
+
+module _ (k : Settings) (m : Tracker) where
+  pub checked-drifts : uniform (m .ring) ≡ true → drifts (m .ring) ≡ true → drifted k m ≡ checked k m
+  unfolding checked
+  checked-drifts u d = rw (u, d)
+
+  pub checked-recovers : uniform (m .ring) ≡ true → drifts (m .ring) ≡ false → fragment m ≡ true → recoveredBy k m ≡ checked k m
+  unfolding checked
+  checked-recovers u d f = rw (u, d, f)
+
+  pub checked-stays : uniform (m .ring) ≡ true → drifts (m .ring) ≡ false → fragment m ≡ false → m ≡ checked k m
+  unfolding checked
+  checked-stays u d f = rw (u, d, f)
+
+  pub checked-mixed : uniform (m .ring) ≡ false → m ≡ checked k m
+  unfolding checked
+  checked-mixed u = rw u
+
+-- five places by name
+pub five-of : (l : List Float) (z : Float) → length l ≡ 5 → getD l 0 z ∷ getD l 1 z ∷ getD l 2 z ∷ getD l 3 z ∷ getD l 4 z ∷ [] ≡ l
+five-of (a ∷ b ∷ c ∷ x ∷ y ∷ []) z h = refl
+five-of [] z h = absurd (omega arith)
+five-of (a ∷ []) z h = absurd (omega arith)
+five-of (a ∷ b ∷ []) z h = absurd (omega arith)
+five-of (a ∷ b ∷ c ∷ []) z h = absurd (omega arith)
+five-of (a ∷ b ∷ c ∷ x ∷ []) z h = absurd (omega arith)
+five-of (a ∷ b ∷ c ∷ x ∷ y ∷ w ∷ r) z h = absurd (omega arith)
+
+-- the first n of a wider array
+pub wider : (s l : List Float) (n : ℕ) → take 5 s ≡ l → n ≤ 5 → take n s ≡ take n l
+wider s l n e h = sym (take-take n 5 s h) ∙ ap (take n) e
+
+pub drifts-at : (t : SpeedTracker) (b v : Bool) → length (t .ring) ≡ 12 → Full t → b ≡ drifts (t .ring) → b ≡ v → drifts (view t .ring) ≡ v
+drifts-at t b v h f e q = ap drifts (whole (t .ring) (t .«ring_len») h (f .count)) ∙ sym e ∙ q
+
+pub ring-marks : (l : List RingEntry) (d : List Float) (n : ℕ) → length l ≡ 12 → n ≡ 12 → d ≡ durations l → take 12 d ≡ durations (take n l)
+ring-marks l d n h e q =
+    let g : length (durations l) ≡ 12 = length-map l (λ (e : RingEntry). e .«dur_ms») ∙ h in
+    ap (take 12) q ∙ take-all 12 (durations l) (omega arith) ∙ ap durations (sym (whole l n h e))
+
+pub some-count : (l : List Float) (n : ℕ) → 1 ≤ length (take n l) → 1 ≤ n
+some-count l n h = omega (arith, length-take n l)
+
+-- ---- a finish
+module _ (k : Settings) (m : Tracker) where
+  pub begins : (r : Tracker) → canBegin m ≡ true → r ≡ timed k (bound k (withPair m (initialized k (m .pair .init)))) → r ≡ bootstrapped k m
+  unfolding bootstrapped
+  begins r e q = q ∙ sym (ap (λ (b : Bool). cond b (timed k (bound k (withPair m (initialized k (m .pair .init))))) m) e)
+
+  pub begins-not : canBegin m ≡ false → m ≡ bootstrapped k m
+  unfolding bootstrapped
+  begins-not e = sym (ap (λ (b : Bool). cond b (timed k (bound k (withPair m (initialized k (m .pair .init))))) m) e)
+
+  pub times-ready : (r : Tracker) → m .pair .ready ≡ true → r ≡ timed k m → r ≡ reseeded k m
+  unfolding reseeded
+  times-ready r e q = q ∙ sym (ap (λ (b : Bool). cond b (timed k m) m) e)
+
+  pub times-not : m .pair .ready ≡ false → m ≡ reseeded k m
+  unfolding reseeded
+  times-not e = sym (ap (λ (b : Bool). cond b (timed k m) m) e)
+
+-- the start marks of a tracker that can begin
+pub begin-counts : (t : SpeedTracker) → length (t .pair .init) ≡ 12 → t .pair .«init_len» ≤ 12 → canBegin (view t) ≡ true → 1 ≤ t .pair .«init_len»
+begin-counts t h c e =
+    let p = both (not (t .pair .ready)) (leb 2 (length (take (t .pair .«init_len») (t .pair .init)))) (passed e) in
+    let q = leb→le 2 (length (take (t .pair .«init_len») (t .pair .init))) (p .1) in
+    let w = length-take-le (t .pair .«init_len») (t .pair .init) (omega arith) in
+    omega arith

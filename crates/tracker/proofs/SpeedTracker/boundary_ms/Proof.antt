@@ -1,0 +1,31 @@
+use Rattle.tracker.specs.Answers.{number}
+use Rattle.tracker.proofs.Answering.{reads, reads-not}
+use Rattle.ranges.specs.Settings.{standard}
+use mathlib.Core.Path.{_≡_, refl, ap, sym, _∙_}
+use native.Mathlib.Omega.{arith}
+use borrow.Author.Needs.{needs}
+use Rattle.tracker.proofs.SpeedTracker.boundary_ms.Statement.{statement}
+use Rattle.tracker.proofs.SpeedTracker.boundary_ms.Tie as tie
+use Rattle.tracker.proofs.SpeedTracker.boundary_ms.Reads as reads
+use Rattle.tracker.proofs.SpeedTracker.boundary_ms.Lts as lts
+use Rattle.tracker.proofs.inner.pair.boundary.Reads as boundary-reads
+use Rattle.tracker.proofs.inner.sound.is_sound.Reads as is-sound-reads
+
+-- src/calls.rt:75:12
+is-sound-requires : tie.Need-is-sound-requires
+is-sound-requires c κs = search needs
+
+-- src/calls.rt:77:32
+boundary-requires : tie.Need-boundary-requires
+boundary-requires c κs = search needs
+
+-- src/calls.rt:77:13
+returns : tie.Need-returns
+returns c = reads standard (c .before .before .before .before .args .self) _ _ (sym (c .before .before .before .is-sound .ensures) ∙ c .before .before .if1 .taken) (ap number (c .boundary .ensures))
+
+-- src/calls.rt:72:5
+returns-2 : tie.Need-returns-2
+returns-2 c = reads-not standard (c .before .before .args .self) _ (sym (c .before .is-sound .ensures) ∙ c .if1 .left)
+
+pub boundary-ms-spec : {M : Type 1} → statement M
+boundary-ms-spec = tie.close (tie.spec is-sound-requires boundary-requires returns returns-2)

@@ -1,0 +1,50 @@
+-- What the machine's hold on a tracker says of its numbers: they are values of f32. Assumes nothing.
+use mathlib.Core.Path.{_≡_, refl}
+use mathlib.Core.Bool.{Bool, true, false}
+use lib.Dec.{T}
+use lib.ListN.{length}
+use lib.Ieee.{Float, binary32, fits}
+use borrow.Author.Needs.{length-unmapped}
+use denote.RattleType.{Valss, owns}
+use denote.Shadow.{shadow}
+use denote.Struct.Declared.{shape}
+use Rattle.ranges.specs.Settings.{standard}
+use Rattle.ranges.proofs.Compare.{passed}
+use Rattle.ranges.proofs.Standard.{standard-good, standard-held}
+use Rattle.tracker.specs.declared.SpeedTracker.{SpeedTracker}
+use Rattle.tracker.specs.Model.{Tracker, held, view}
+use Rattle.tracker.specs.Parts.{Counted}
+use Rattle.tracker.specs.Sound.{sound}
+use Rattle.tracker.proofs.SpeedTracker.{the-type}
+use Rattle.tracker.proofs.Shifting.{unmapped}
+use Rattle.tracker.proofs.Soundness.{sound-fine, sound-by, proper-of}
+use Rattle.tracker.proofs.Keeping.{fitsOr, Floats, Sane}
+
+held-fits : (b : Bool) (x : Float) → T (fits binary32 x) → T (fitsOr (held b x))
+held-fits true x f = f
+held-fits false x f = tt
+
+-- what `c .good` has of a tracker
+pub floats-of : (t : SpeedTracker) (v : Valss (shape the-type .fields)) → shadow (owns (shape the-type .fields) (the-type .to t) v) → Floats (view t)
+floats-of t v g = record {
+  lo = passed (g .0 .1 .1 .0 .1);
+  hi = passed (g .0 .1 .1 .1 .0 .1);
+  wpm = held-fits (t .«has_wpm») (t .«wpm_ema») (passed (g .1 .1 .1 .1 .0 .1));
+  egap = held-fits (t .«has_egap») (t .«mu_egap_ms») (passed (g .1 .1 .1 .1 .1 .1 .1 .1 .0 .1));
+}
+
+pub sane-of : (t : SpeedTracker) (v : Valss (shape the-type .fields)) → shadow (owns (shape the-type .fields) (the-type .to t) v) → T (sound standard t) → Sane standard standard-good standard-held (view t)
+sane-of t v g s = record { fine = sound-fine standard t s; floats = floats-of t v g }
+
+-- a tracker with the view m, which is sane, is sound
+pub still : (r : SpeedTracker) (m : Tracker) → (view r ≡ m) × Counted r → Sane standard standard-good standard-held m → (view r ≡ m) × T (sound standard r)
+still r m e s = (e .0, sound-by standard r m e (proper-of standard m (s .fine)))
+
+pub init-long : (t : SpeedTracker) (v : Valss (shape the-type .fields)) → shadow (owns (shape the-type .fields) (the-type .to t) v) → length (t .pair .init) ≡ 12
+init-long t v g = length-unmapped Float (t .pair .init) 12 (g .0 .1 .1 .1 .1 .0 .1 .0 .1)
+
+pub ring-long : (t : SpeedTracker) (v : Valss (shape the-type .fields)) → shadow (owns (shape the-type .fields) (the-type .to t) v) → length (t .ring) ≡ 12
+ring-long t v g = unmapped _ (t .ring) 12 (g .1 .0 .1 .0 .1)
+
+pub recent-long : (t : SpeedTracker) (v : Valss (shape the-type .fields)) → shadow (owns (shape the-type .fields) (the-type .to t) v) → length (t .recent) ≡ 5
+recent-long t v g = length-unmapped Float (t .recent) 5 (g .1 .1 .1 .1 .1 .0 .1 .0 .1)

@@ -1,0 +1,29 @@
+use Rattle.tracker.proofs.Ringing.{durations-in}
+use Rattle.tracker.proofs.Relocking.{wider, some-count}
+use Rattle.tracker.specs.Steps.{relocked}
+use Rattle.tracker.specs.Model.{view}
+use Rattle.ranges.specs.Settings.{standard}
+use mathlib.Core.Path.{ap, sym, _∙_}
+use native.Mathlib.Omega.{arith}
+use borrow.Author.Needs.{needs}
+use Rattle.tracker.proofs.inner.relock.drifted.Statement.{statement}
+use Rattle.tracker.proofs.inner.relock.drifted.Tie as tie
+use Rattle.tracker.proofs.inner.relock.drifted.Reads as reads
+use Rattle.tracker.proofs.inner.relock.drifted.Lts as lts
+use Rattle.tracker.proofs.inner.relock.relock.Reads as relock-reads
+use Rattle.tracker.proofs.inner.relock.widened.Reads as widened-reads
+
+-- src/inner/relock.rt:51:9
+widened-requires : tie.Need-widened-requires
+widened-requires c κs = search needs
+
+-- src/inner/relock.rt:52:5
+relock-requires : tie.Need-relock-requires
+relock-requires c κs = let s = c .before .before in let h = s .pre .counted .recent in (s .pre .counted, ((some-count _ _ (s .pre .drivable .some), omega arith), rw (wider _ _ (s .args .t .«recent_len») (c .widened .ensures) h) (durations-in _ (s .pre .drivable .recent))))
+
+-- src/inner/relock.rt:46:1
+returns : tie.Need-returns
+returns c = let s = c .before .before .before in (c .relock .ensures .0 ∙ ap (relocked standard (view (s .args .t))) (wider _ _ (s .args .t .«recent_len») (c .before .widened .ensures) (s .pre .counted .recent)), c .relock .ensures .1)
+
+pub drifted-spec : {M : Type 1} → statement M
+drifted-spec = tie.close (tie.spec widened-requires relock-requires returns)

@@ -1,0 +1,46 @@
+use Rattle.tracker.proofs.Keeping.{locked-up, rest-of, fresh-sane}
+use Rattle.tracker.proofs.Soundness.{counts}
+use Rattle.tracker.specs.Steps.{fresh, bound}
+use Rattle.tracker.specs.Lock.{initialized}
+use Rattle.tracker.specs.Model.{Pair, Tracker, viewPair, withPair}
+use lib.Ieee.{Float}
+use mathlib.Core.List.{List}
+use mathlib.Core.Path.{_≡_, ap, sym, _∙_}
+use Rattle.tracker.proofs.Stored.{sane-of, still}
+use Rattle.tracker.specs.Model.{view}
+use Rattle.ranges.proofs.Standard.{standard-good, standard-held}
+use Rattle.ranges.specs.Settings.{standard}
+use native.Mathlib.Omega.{arith}
+use borrow.Author.Needs.{needs}
+use Rattle.tracker.proofs.inner.rivals.locked.Statement.{statement}
+use Rattle.tracker.proofs.inner.rivals.locked.Tie as tie
+use Rattle.tracker.proofs.inner.rivals.locked.Reads as reads
+use Rattle.tracker.proofs.inner.rivals.locked.Lts as lts
+use Rattle.tracker.proofs.inner.begin.fresh.Reads as fresh-reads
+use Rattle.tracker.proofs.inner.lock.initialize.Reads as initialize-reads
+use Rattle.tracker.proofs.inner.rivals.copied.Reads as copied-reads
+use Rattle.tracker.proofs.inner.speed.bound.Reads as bound-reads
+
+-- src/inner/rivals.rt:45:9
+copied-requires : tie.Need-copied-requires
+copied-requires c κs = search needs
+
+-- src/inner/rivals.rt:46:9
+initialize-requires : tie.Need-initialize-requires
+initialize-requires c κs = (c .before .before .pre .0, rw (c .copied .ensures) (c .before .before .pre .1))
+
+-- src/inner/rivals.rt:47:9
+fresh-requires : tie.Need-fresh-requires
+fresh-requires c κs = search needs
+
+-- src/inner/rivals.rt:49:5
+bound-requires : tie.Need-bound-requires
+bound-requires c κs = let k = counts standard (c .fresh .result) (c .fresh .ensures .1) in record { init = let e = c .before .initialize .ensures .1 in omega arith; ring = k .ring; recent = k .recent }
+
+-- src/inner/rivals.rt:40:1
+returns : tie.Need-returns
+returns c = let s = c .before .before .before .before .before in let l = s .args .marks .now in still (c .bound .result) (bound standard (withPair fresh (initialized standard l))) (c .bound .ensures .0 ∙ ap (λ (z : Tracker). bound standard (withPair z (viewPair (c .before .before .initialize .result)))) (c .before .fresh .ensures .0) ∙ ap (λ (p : Pair). bound standard (withPair fresh p)) (c .before .before .initialize .ensures .0 ∙ ap (initialized standard) (c .before .before .before .copied .ensures)), c .bound .ensures .1) (locked-up standard standard-good standard-held fresh l (rest-of standard standard-good standard-held fresh (fresh-sane standard standard-good standard-held)) (s .pre .1) (s .pre .0 .0) (s .pre .0 .1) .sane)
+
+pub locked-spec : {M : Type 1} → statement M
+locked-spec =
+    tie.close (tie.spec copied-requires initialize-requires fresh-requires bound-requires returns)

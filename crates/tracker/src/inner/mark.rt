@@ -1,0 +1,89 @@
+// One mark (the Rust's `on_mark`).
+use crate::ClusterPair;
+use crate::RingEntry;
+use crate::SpeedTracker;
+use crate::inner::pair::boundary;
+use crate::inner::pair::learn;
+use crate::inner::pair::start;
+use crate::inner::push::push_recent;
+use crate::inner::push::push_ring;
+use crate::inner::relock::check;
+use crate::inner::speed::bound;
+use crate::inner::speed::spoken;
+ghost use mathlib.Core.Path.{_≡_};
+ghost use lib.Dec.{T};
+ghost use Rattle.ranges.specs.Settings.{standard};
+ghost use Rattle.tracker.specs.Model.{view, viewPair};
+ghost use Rattle.tracker.specs.Parts.{Counted, Checkable};
+ghost use Rattle.tracker.specs.Sound.{duration, centroids, sound};
+ghost use Rattle.tracker.specs.Steps.{entry, followed, opened, onMark};
+
+// The mark d for the ring: before it the pair was p, after it q.
+pub(crate) fn entry(p: ClusterPair, q: ClusterPair, d: f32) -> RingEntry
+    ensures { λ r. ⌜ r ≡ entry (viewPair p) (viewPair q) d ⌝ }
+{
+    let dit = d < boundary(q);
+    RingEntry {
+        dur_ms: d,
+        assigned_dit: dit,
+        pre_lo: p.lo,
+        pre_hi: p.hi,
+    }
+}
+
+// A tracker that was ready with the pair p has learnt d: constraints, ring, drift, speed.
+pub(crate) fn follow(p: ClusterPair, u: SpeedTracker, d: f32) -> SpeedTracker
+    requires { ⌜ Checkable u ⌝ }
+    requires { ⌜ T (centroids standard (p .lo) (p .hi)) ⌝ }
+    requires { ⌜ T (duration d) ⌝ }
+    ensures { λ r. ⌜ (view r ≡ followed standard (viewPair p) (view u) d) × Counted r ⌝ }
+{
+    let c = bound(u);
+    let q = c.pair;
+    let e = entry(p, q, d);
+    let g = push_ring(c, e);
+    let h = check(g);
+    spoken(h)
+}
+
+// A tracker that was not ready has kept a mark: where it locked, constraints and speed.
+pub(crate) fn open(u: SpeedTracker) -> SpeedTracker
+    requires { ⌜ Counted u ⌝ }
+    ensures { λ r. ⌜ (view r ≡ opened standard (view u)) × Counted r ⌝ }
+{
+    let p = u.pair;
+    if p.ready {
+        let mut v = u;
+        v.lo_uncorroborated = p.lo_n == 1;
+        let w = bound(v);
+        return spoken(w);
+    }
+    u
+}
+
+// One mark.
+pub(crate) fn marked(t: SpeedTracker, d: f32) -> SpeedTracker
+    requires { ⌜ T (sound standard t) ⌝ }
+    requires { ⌜ T (duration d) ⌝ }
+    ensures { λ r. ⌜ (view r ≡ onMark standard (view t) d) × Counted r ⌝ }
+{
+    let p = t.pair;
+    let mut u = push_recent(t, d);
+    if p.ready {
+        let q = learn(p, d);
+        u.pair = q;
+        return follow(p, u, d);
+    }
+    let q = start(p, d);
+    u.pair = q;
+    open(u)
+}
+
+// One mark: a sound tracker learns d and stays sound.
+pub fn on_mark(t: SpeedTracker, d: f32) -> SpeedTracker
+    requires { ⌜ T (sound standard t) ⌝ }
+    requires { ⌜ T (duration d) ⌝ }
+    ensures { λ r. ⌜ (view r ≡ onMark standard (view t) d) × T (sound standard r) ⌝ }
+{
+    marked(t, d)
+}
