@@ -1,6 +1,7 @@
 //! The differential driver: the same cases to both sides, every result compared.
 
 use crate::random::Random;
+use crate::reached::{self, Branch};
 use crate::shrink::shrink;
 use std::fmt::Debug;
 use std::time::{Duration, Instant};
@@ -33,7 +34,15 @@ pub trait Layer {
 
     /// Smaller cases to try in place of one that shows a difference (`shrink` has what makes them).
     fn smaller(case: &Self::Case) -> Vec<Self::Case>;
+
+    /// The branches that its runs count: a long run has to reach each.
+    fn reached() -> &'static [&'static Branch] {
+        &[]
+    }
 }
+
+/// A run of this length must have reached every branch.
+const LONG: Duration = Duration::from_secs(5);
 
 /// When a run ends.
 #[derive(Debug, Clone, Copy, PartialEq)]
@@ -163,7 +172,12 @@ pub fn report<L: Layer>(seed: u64, limit: Limit) -> bool {
         usize::from(o.found.is_some()),
         start.elapsed().as_secs_f64()
     );
-    o.found.is_none()
+    let long = start.elapsed() >= LONG;
+    let all = reached::print(L::reached());
+    if !all && long {
+        println!("{}: a branch was not reached", L::NAME);
+    }
+    o.found.is_none() && (all || !long)
 }
 
 #[cfg(test)]

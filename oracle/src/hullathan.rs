@@ -79,3 +79,138 @@ pub mod numbers {
         unsafe { c::hullathan_below_root(x, v, out) }
     }
 }
+
+/// A sender's statistics, as C has them.
+pub mod sender {
+    /// One class: its average and variance in dits, which mean nothing while n is 0.
+    #[repr(C)]
+    #[derive(Debug, Clone, Copy, Default)]
+    pub struct ClassStats {
+        pub mean: f32,
+        pub var: f32,
+        pub n: u32,
+    }
+
+    /// The five classes, by their numbers.
+    #[repr(C)]
+    #[derive(Debug, Clone, Copy, Default)]
+    pub struct SenderTiming {
+        pub stats: [ClassStats; 5],
+    }
+
+    #[repr(C)]
+    #[derive(Debug, Clone, Copy)]
+    pub struct Observed {
+        pub code: u8,
+        pub timing: SenderTiming,
+    }
+
+    #[repr(C)]
+    #[derive(Debug, Clone, Copy)]
+    pub struct Number {
+        pub code: u8,
+        pub has: bool,
+        pub value: f32,
+    }
+
+    #[repr(C)]
+    #[derive(Debug, Clone, Copy)]
+    pub struct Flag {
+        pub code: u8,
+        pub yes: bool,
+    }
+
+    #[repr(C)]
+    #[derive(Debug, Clone, Copy)]
+    pub struct Report {
+        pub code: u8,
+        pub dit_ms: f32,
+        pub classes: SenderTiming,
+    }
+
+    mod c {
+        use super::*;
+
+        extern "C" {
+            pub fn hullathan_sender_new() -> SenderTiming;
+            pub fn hullathan_sender_observe(t: SenderTiming, class: u8, dur_ms: f32, dit_ms: f32) -> Observed;
+            pub fn hullathan_sender_mean_dits(t: SenderTiming, class: u8) -> Number;
+            pub fn hullathan_sender_dash_dot_ratio(t: SenderTiming) -> Number;
+            pub fn hullathan_sender_word_dits(t: SenderTiming) -> Number;
+            pub fn hullathan_sender_is_pause(t: SenderTiming, dits: f32) -> Flag;
+            pub fn hullathan_sender_estimates(t: SenderTiming, dit_ms: f32) -> Report;
+        }
+    }
+
+    // Safety of each: the library is proved to take every number, and nothing is lent to it.
+
+    pub fn new() -> SenderTiming {
+        unsafe { c::hullathan_sender_new() }
+    }
+
+    pub fn observe(t: SenderTiming, class: u8, dur_ms: f32, dit_ms: f32) -> Observed {
+        unsafe { c::hullathan_sender_observe(t, class, dur_ms, dit_ms) }
+    }
+
+    pub fn mean_dits(t: SenderTiming, class: u8) -> Number {
+        unsafe { c::hullathan_sender_mean_dits(t, class) }
+    }
+
+    pub fn dash_dot_ratio(t: SenderTiming) -> Number {
+        unsafe { c::hullathan_sender_dash_dot_ratio(t) }
+    }
+
+    pub fn word_dits(t: SenderTiming) -> Number {
+        unsafe { c::hullathan_sender_word_dits(t) }
+    }
+
+    pub fn is_pause(t: SenderTiming, dits: f32) -> Flag {
+        unsafe { c::hullathan_sender_is_pause(t, dits) }
+    }
+
+    pub fn estimates(t: SenderTiming, dit_ms: f32) -> Report {
+        unsafe { c::hullathan_sender_estimates(t, dit_ms) }
+    }
+
+    #[cfg(test)]
+    mod tests {
+        use super::*;
+        use std::mem::{offset_of, size_of};
+
+        /// The structs lie as C lays them: the library reads and writes them so.
+        #[test]
+        fn layout() {
+            assert_eq!(size_of::<ClassStats>(), 12);
+            assert_eq!((offset_of!(ClassStats, var), offset_of!(ClassStats, n)), (4, 8));
+            assert_eq!(size_of::<SenderTiming>(), 60);
+            assert_eq!((size_of::<Observed>(), offset_of!(Observed, timing)), (64, 4));
+            assert_eq!((size_of::<Number>(), offset_of!(Number, value)), (8, 4));
+            assert_eq!((size_of::<Flag>(), offset_of!(Flag, yes)), (2, 1));
+            assert_eq!((size_of::<Report>(), offset_of!(Report, classes)), (68, 8));
+        }
+
+        /// Each number comes back from the place where it was put.
+        #[test]
+        fn every_part_arrives() {
+            let mut t = new();
+            for (i, c) in t.stats.iter_mut().enumerate() {
+                let k = i as u32;
+                *c = ClassStats {
+                    mean: 1.0 + k as f32,
+                    var: 10.0 + k as f32,
+                    n: 100 + k,
+                };
+            }
+            let r = estimates(t, 55.0);
+            assert_eq!((r.code, r.dit_ms), (0, 55.0));
+            for (k, (a, b)) in t.stats.iter().zip(&r.classes.stats).enumerate() {
+                assert_eq!((a.mean, a.var, a.n), (b.mean, b.var, b.n));
+                let m = mean_dits(t, k as u8);
+                assert_eq!((m.code, m.has, m.value), (0, true, a.mean));
+            }
+            assert_eq!(mean_dits(t, 5).code, 255);
+            let r = observe(t, 9, 60.0, 60.0);
+            assert_eq!((r.code, r.timing.stats[4].n), (255, 104));
+        }
+    }
+}

@@ -11,6 +11,8 @@ pub mod log01;
 pub mod manta;
 pub mod patterns;
 pub mod random;
+pub mod reached;
+pub mod refusals;
 #[cfg(manta)]
 pub mod replay;
 pub mod shrink;

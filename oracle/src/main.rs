@@ -11,9 +11,8 @@ oracle layers                      the layers that can be compared, and how many
 oracle compare LAYER [--seed S] [--seconds T | --count N]
                                    the same cases to both sides, up to the first difference (10 seconds from seed 1)
 oracle exhaustive [--threads N]    the f32 root and the logarithm over all 2^32 patterns (2 threads; minutes)
-oracle calls sender                the fixed list of calls that crates/sender_replay is run on
-oracle replay sender               what the Rust answers to a list of calls from standard input
 oracle bench numbers               nanoseconds for each call, beside Rust's own
+oracle replay sender DIR           the list of calls for `sender_replay`, and what it must print: DIR/stdin and DIR/stdout
 ";
 
 /// What a command that needs manta's Rust says without it.
@@ -64,29 +63,21 @@ fn compare(name: &str, words: &[String]) -> Result<bool, String> {
     Ok((entry.report)(seed, limit))
 }
 
-/// Writes the list of calls of a replay.
+/// Writes the files of a replaying program, from manta's Rust.
 #[cfg(manta)]
-fn calls() -> Result<bool, String> {
-    print!("{}", oracle::replay::sender_calls());
-    Ok(true)
-}
-
-/// Writes what the Rust answers to the calls on standard input.
-#[cfg(manta)]
-fn replay() -> Result<bool, String> {
-    let calls = std::io::read_to_string(std::io::stdin()).map_err(|e| e.to_string())?;
-    print!("{}", oracle::replay::sender_answers(&calls));
+fn replay(name: &str, folder: &str) -> Result<bool, String> {
+    let files = oracle::replay::files(name).ok_or_else(|| format!("nothing replays {name}"))?;
+    for (file, text) in [("stdin", files.stdin), ("stdout", files.stdout)] {
+        let path = std::path::Path::new(folder).join(file);
+        std::fs::write(&path, text).map_err(|e| format!("{}: {e}", path.display()))?;
+    }
     Ok(true)
 }
 
 #[cfg(not(manta))]
-fn calls() -> Result<bool, String> {
-    Err(NO_MANTA.into())
-}
-
-#[cfg(not(manta))]
-fn replay() -> Result<bool, String> {
-    Err(NO_MANTA.into())
+fn replay(_: &str, _: &str) -> Result<bool, String> {
+    println!("{NO_MANTA}");
+    Ok(false)
 }
 
 /// Whether the command found nothing wrong.
@@ -106,12 +97,11 @@ fn command(words: &[String]) -> Result<bool, String> {
                 option(rest, "--threads")?.unwrap_or(2).max(1),
             ))
         }
-        ("calls", Some((name, []))) if name == "sender" => calls(),
-        ("replay", Some((name, []))) if name == "sender" => replay(),
         ("bench", Some((name, []))) if name == "numbers" => {
             bench::numbers();
             Ok(true)
         }
+        ("replay", Some((name, [folder]))) => replay(name, folder),
         _ => Err("the command is not known".into()),
     }
 }

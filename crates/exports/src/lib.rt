@@ -1,3 +1,4 @@
 // The library as C and Rust link it: plain numbers in, the refusal's number out (0: done), the answer behind a reference.
 // A module for each layer, named `of_` and the layer's crate.
 pub mod of_numbers;
+pub mod of_sender;

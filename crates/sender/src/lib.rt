@@ -16,6 +16,7 @@ pub mod inner;
 pub struct Millis(pub f32);
 
 // A length in dits. Only `observe` makes one of milliseconds.
+#[repr(C)]
 pub struct Dits(pub f32);
 
 pub enum TimingClass {
@@ -42,6 +43,7 @@ impl TimingClass {
 }
 
 // What is known of one class: average and variance, which mean nothing while n is 0.
+#[repr(C)]
 pub struct ClassStats {
     pub mean: Dits,
     pub var: f32,
@@ -49,6 +51,7 @@ pub struct ClassStats {
 }
 
 // The five classes.
+#[repr(C)]
 pub struct SenderTiming {
     pub dot: ClassStats,
     pub dash: ClassStats,

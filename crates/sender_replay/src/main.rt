@@ -1,99 +1,115 @@
-// Replays calls on a sender's statistics, from standard input, and prints each answer with the statistics after it.
-//
-// A call is 31 bytes: a letter, a blank, a class (0 to 4), three numbers of 8 hexadecimal digits, each after a blank, and a newline.
-//   N  new                                  S  the class is set: bits of its mean, bits of its variance, its count
-//   O  observe: duration, dit               M  mean_dits
-//   R  dash_dot_ratio                       W  sender_word_dits
-//   P  is_pause: length in dits             E  estimates: dit
-// What a call doesn't want is 0. An answer is 147 bytes: the letter, a blank, what was said (D done, L a length, Q a ratio, A absent,
-// Y yes or no, T a report, R refused), its number (bits, 1 for yes, the report's dit, the refusal; else 0) of 8 digits, then of each class
-// in order mean, variance and count, each after a blank, and a newline. A report prints its own classes, zeros for an absent one.
-// Digits are capitals, and a NaN is 7FC00000.
-use crate::bits::float;
-use crate::lines::class_at;
-use crate::lines::number_at;
-use crate::lines::show;
-use crate::sides::Said;
-use crate::sides::Turn;
-use crate::sides::of_length;
-use crate::sides::of_ratio;
-use crate::sides::of_report;
-use crate::sides::of_told;
-use crate::sides::of_yes;
-use crate::sides::reported;
-use crate::sides::with_class;
+// Replays a list of calls of `sender`, one a line of standard input, and prints after each the answer and the statistics as they are.
+// stdin was written by `oracle replay sender crates/sender_replay`, and stdout by the Rust that the library replaces, from the same
+// list. A line is a letter, the number of a class and three fields of 8 hexadecimal digits, parted by blanks: O observe (duration,
+// dit), M mean_dits, R dash_dot_ratio, W sender_word_dits, P is_pause (dits), E estimates (dit), S sets a class (mean, variance,
+// count), N starts anew.
+use exports::of_sender as calls;
+use replay::float;
+use replay::put_byte;
+use replay::put_float;
+use replay::put_word;
 use sender::ClassStats;
 use sender::Dits;
-use sender::Millis;
 use sender::SenderTiming;
 
-mod bits;
-mod lines;
-mod sides;
-
-// One call.
-fn call(t: SenderTiming, line: &[u8; 31]) -> Turn {
-    let class = class_at(line);
-    let a = float(number_at(line, 4));
-    let b = float(number_at(line, 13));
-    let letter = line[0];
-    if letter == 78 {
-        let fresh = SenderTiming::new();
-        return Turn {
-            said: Said { kind: 68, value: 0 },
-            timing: fresh,
-        };
-    }
-    if letter == 83 {
-        let set = with_class(
-            t,
-            class,
-            ClassStats {
-                mean: Dits(a),
-                var: b,
-                n: number_at(line, 22),
-            },
-        );
-        return Turn {
-            said: Said { kind: 68, value: 0 },
-            timing: set,
-        };
-    }
-    if letter == 79 {
-        let r = t.observe(class, Millis(a), Millis(b));
-        let told = r.told;
-        let said = of_told(told);
-        let next = r.timing;
-        return Turn { said, timing: next };
-    }
-    if letter == 69 {
-        let r = t.estimates(Millis(a));
-        let said = of_report(r);
-        let shown = reported(r, t);
-        return Turn {
-            said,
-            timing: shown,
-        };
-    }
-    let said = read(t, letter, line);
-    Turn { said, timing: t }
+// A class: its mean, its variance, its count.
+fn put_class(c: ClassStats) {
+    put_float(c.mean.0);
+    put_float(c.var);
+    put_word(c.n);
 }
 
-// One call that only reads.
-fn read(t: SenderTiming, letter: u8, line: &[u8; 31]) -> Said {
-    if letter == 77 {
-        return of_length(t.mean_dits(class_at(line)));
-    }
-    if letter == 82 {
-        return of_ratio(t.dash_dot_ratio());
-    }
-    if letter == 87 {
-        return of_length(t.sender_word_dits());
-    }
-    of_yes(t.is_pause(Dits(float(number_at(line, 4)))))
+// The five classes.
+fn put_classes(t: SenderTiming) {
+    put_class(t.dot);
+    put_class(t.dash);
+    put_class(t.element_gap);
+    put_class(t.char_gap);
+    put_class(t.word_gap);
 }
 
-// One line in and one out; the statistics after it, and whether there was a line.
+// The start of an answer: letter, code, whether there is a number or yes, and the number.
+fn put_answer(letter: u8, code: u8, has: bool, value: f32) {
+    put_byte(letter);
+    replay::put_code(code);
+    replay::put_flag(has);
+    put_float(value);
+}
+
+// The statistics with one class set.
+fn with_class(t: SenderTiming, class: u8, c: ClassStats) -> SenderTiming {
+    match class {
+        0 => SenderTiming { dot: c, ..t },
+        1 => SenderTiming { dash: c, ..t },
+        2 => SenderTiming {
+            element_gap: c,
+            ..t
+        },
+        3 => SenderTiming { char_gap: c, ..t },
+        _ => SenderTiming { word_gap: c, ..t },
+    }
+}
+
+// A call that reads a number.
+fn put_number(letter: u8, n: calls::SenderNumber) {
+    put_answer(letter, n.code, n.has, n.value);
+}
+
+fn put_pause(t: SenderTiming, dits: f32) {
+    let r = calls::hullathan_sender_is_pause(t, dits);
+    put_answer(b'P', r.code, r.yes, 0.0);
+}
+
+fn put_report(t: SenderTiming, dit_ms: f32) {
+    let r = calls::hullathan_sender_estimates(t, dit_ms);
+    put_answer(b'E', r.code, false, r.dit_ms);
+    put_classes(r.classes);
+}
+
+// A call that only reads.
+fn read_call(t: SenderTiming, letter: u8, class: u8, x: f32) {
+    match letter {
+        b'M' => put_number(letter, calls::hullathan_sender_mean_dits(t, class)),
+        b'R' => put_number(letter, calls::hullathan_sender_dash_dot_ratio(t)),
+        b'W' => put_number(letter, calls::hullathan_sender_word_dits(t)),
+        b'P' => put_pause(t, x),
+        _ => put_report(t, x),
+    }
+}
+
+// One line: what the statistics are afterwards.
+fn run(t: SenderTiming, line: &[u8; 31]) -> SenderTiming {
+    let letter = replay::letter(line);
+    let class = replay::number(line);
+    let x = float(replay::first(line));
+    let y = float(replay::second(line));
+    match letter {
+        b'O' => {
+            let r = calls::hullathan_sender_observe(t, class, x, y);
+            put_answer(letter, r.code, false, 0.0);
+            r.timing
+        }
+        b'S' => {
+            put_answer(letter, 0, false, 0.0);
+            let c = ClassStats {
+                mean: Dits(x),
+                var: y,
+                n: replay::third(line),
+            };
+            with_class(t, class, c)
+        }
+        b'N' => {
+            put_answer(letter, 0, false, 0.0);
+            calls::hullathan_sender_new()
+        }
+        _ => {
+            read_call(t, letter, class, x);
+            t
+        }
+    }
+}
+
+// One line in and one out: the statistics after it, and whether there was a line.
 struct After {
     timing: SenderTiming,
     more: bool,
@@ -101,16 +117,11 @@ struct After {
 
 fn step(t: SenderTiming) -> After {
     let mut line = [0u8; 31];
-    let n = io::read_full(0, &mut line);
-    if n == 31 {
-        let turn = call(t, &line);
-        let letter = line[0];
-        let more = show(letter, turn);
-        let mut next = turn.timing;
-        if letter == 69 {
-            next = t;
-        }
-        return After { timing: next, more };
+    if replay::next(&mut line) {
+        let timing = run(t, &line);
+        put_classes(timing);
+        put_byte(b'\n');
+        return After { timing, more: true };
     }
     After {
         timing: t,
@@ -118,8 +129,9 @@ fn step(t: SenderTiming) -> After {
     }
 }
 
+// A proved loop has to end, so the turns are counted down from a number that no run uses up.
 fn main() {
-    let mut t = SenderTiming::new();
+    let mut t = calls::hullathan_sender_new();
     let mut turns = u64::MAX;
     while turns > 0 {
         let s = step(t);

@@ -3,6 +3,11 @@
 use crate::compare::{report, Limit};
 
 pub mod numbers;
+#[cfg(manta)]
+pub mod sender;
+
+/// Runs a layer from a seed up to a limit, and prints what was seen. Whether nothing was wrong.
+type Report = fn(u64, Limit) -> bool;
 
 /// A layer as the command line knows it.
 pub struct Entry {
@@ -11,12 +16,35 @@ pub struct Entry {
     pub gate: u64,
     /// Whether the other side is manta's Rust, and not Rust's own library.
     pub needs_manta: bool,
-    pub report: fn(u64, Limit) -> bool,
+    pub report: Report,
 }
 
-pub const LAYERS: &[Entry] = &[Entry {
-    name: "numbers",
-    gate: 30,
-    needs_manta: false,
-    report: report::<numbers::Numbers>,
-}];
+/// The layers beside manta's Rust; without it nothing is run.
+#[cfg(manta)]
+mod beside_manta {
+    use super::{report, sender, Report};
+
+    pub const SENDER: Report = report::<sender::Sender>;
+}
+
+#[cfg(not(manta))]
+mod beside_manta {
+    use super::Report;
+
+    pub const SENDER: Report = |_, _| false;
+}
+
+pub const LAYERS: &[Entry] = &[
+    Entry {
+        name: "numbers",
+        gate: 30,
+        needs_manta: false,
+        report: report::<numbers::Numbers>,
+    },
+    Entry {
+        name: "sender",
+        gate: 10,
+        needs_manta: true,
+        report: beside_manta::SENDER,
+    },
+];

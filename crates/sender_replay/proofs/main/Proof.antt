@@ -1,4 +1,4 @@
--- `sender_replay::main` meets its contract. Assumes nothing.
+-- `sender_replay::main` is safe and ends: the measure is the number of turns that are left. Assumes nothing.
 use native.Mathlib.Omega.{arith}
 use Rattle.sender_replay.proofs.main.Statement.{statement}
 use Rattle.sender_replay.proofs.main.Tie as tie
@@ -9,8 +9,8 @@ Inv-loop t₀ turns₀ t turns = Unit {0}
 abbrev μ-loop : tie.MeasureT-loop
 μ-loop t₀ turns₀ t turns = turns
 
-new-requires : tie.Need-new-requires Inv-loop μ-loop
-new-requires c κs = tt
+hullathan-sender-new-requires : tie.Need-hullathan-sender-new-requires Inv-loop μ-loop
+hullathan-sender-new-requires c κs = tt
 
 loop-holds : tie.Need-loop-holds Inv-loop μ-loop
 loop-holds c = tt
@@ -42,7 +42,7 @@ main-spec =
     (tie.spec
     Inv-loop
     μ-loop
-    new-requires
+    hullathan-sender-new-requires
     loop-holds
     step-requires
     sub-turns
