@@ -164,12 +164,6 @@ pub extern "C" fn hullathan_below_root(x: f32, v: f32, out: &mut bool) -> u8
     ensures { λ r. ⌜ r ≡ 0 ⌝ }
     ensures { λ _. ⌜ now (out .exit) ≡ lt x (sqrtOf binary32 v) ⌝ }
 {
-    if ranges::is_positive(x) {
-        if ranges::is_positive(v) {
-            *out = numbers::inner::below_root(x, v);
-            return 0;
-        }
-    }
-    *out = x < numbers::inner::root32(v);
+    *out = numbers::inner::below_root(x, v);
     0
 }

@@ -7,7 +7,8 @@ use crate::rounding::ratio32;
 use crate::rounding::take_apart;
 ghost use mathlib.Core.Path.{_≡_};
 ghost use lib.Dec.{T};
-ghost use lib.Ieee.{binary32, binary64, lt};
+ghost use mathlib.Core.Bool.{not};
+ghost use lib.Ieee.{binary32, binary64, isNan, lt};
 ghost use lib.Ieee.Positive.{positive};
 ghost use Rattle.numbers.specs.Log.{lnOf};
 ghost use Rattle.numbers.specs.Root.{sqrtOf};
@@ -62,15 +63,29 @@ pub fn root64(v: f64) -> f64
     0.0 / 0.0
 }
 
-// Whether x is below the root of v, both finite and above zero: Rust's `x < v.sqrt()`, mostly with no root taken.
-pub fn below_root(x: f32, v: f32) -> bool
-    requires { ⌜ T (positive x) × T (positive v) ⌝ }
+// Whether x is below the root of a v that is finite and above zero, with no root taken where x is a normal f32.
+fn below_positive(x: f32, v: f32) -> bool
+    requires { ⌜ T (not (isNan x)) × T (positive v) ⌝ }
     ensures { λ r. ⌜ r ≡ lt x (sqrtOf binary32 v) ⌝ }
 {
     let c = f32::to_bits(x);
     if 0x0080_0000 <= c {
         if c < 0x7f00_0000 {
             return pattern_below(c, v);
+        }
+    }
+    x < root32(v)
+}
+
+// Whether x is below the root of v: Rust's `x < v.sqrt()` on every value.
+pub fn below_root(x: f32, v: f32) -> bool
+    ensures { λ r. ⌜ r ≡ lt x (sqrtOf binary32 v) ⌝ }
+{
+    if 0.0 < x {
+        if 0.0 < v {
+            if v < f32::from_bits(0x7f80_0000) {
+                return below_positive(x, v);
+            }
         }
     }
     x < root32(v)

@@ -2,7 +2,6 @@
 use crate::ClusterPair;
 use crate::RingEntry;
 use crate::SpeedTracker;
-use crate::inner::pair::boundary;
 use crate::inner::pair::learn;
 use crate::inner::pair::start;
 use crate::inner::push::push_recent;
@@ -10,6 +9,7 @@ use crate::inner::push::push_ring;
 use crate::inner::relock::check;
 use crate::inner::speed::bound;
 use crate::inner::speed::spoken;
+use numbers::inner::below_root;
 ghost use mathlib.Core.Path.{_≡_};
 ghost use lib.Dec.{T};
 ghost use Rattle.ranges.specs.Settings.{standard};
@@ -22,7 +22,7 @@ ghost use Rattle.tracker.specs.Steps.{entry, followed, opened, onMark};
 pub(crate) fn entry(p: ClusterPair, q: ClusterPair, d: f32) -> RingEntry
     ensures { λ r. ⌜ r ≡ entry (viewPair p) (viewPair q) d ⌝ }
 {
-    let dit = d < boundary(q);
+    let dit = below_root(d, q.lo * q.hi);
     RingEntry {
         dur_ms: d,
         assigned_dit: dit,

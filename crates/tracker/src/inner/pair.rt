@@ -1,6 +1,7 @@
 // Constraints, and how a pair learns a mark (the Rust's `apply_constraints` and `observe`).
 use crate::ClusterPair;
 use crate::inner::lock::initialize;
+use numbers::inner::below_root;
 use numbers::inner::root32;
 use order::clamp32;
 use ranges::within;
@@ -81,7 +82,7 @@ pub(crate) fn moved(p: ClusterPair, v: f32) -> ClusterPair
     ensures { λ r. ⌜ (viewPair r ≡ moved standard (viewPair p) v) × (r .«init_len» ≡ p .«init_len») ⌝ }
 {
     let mut q = p;
-    if v < boundary(p) {
+    if below_root(v, p.lo * p.hi) {
         q.lo = p.lo + 0.15 * (v - p.lo);
         return q;
     }

@@ -3,11 +3,11 @@ use borrow.Author.Needs.{needs}
 use Rattle.tracker.proofs.inner.mark.entry.Statement.{statement}
 use Rattle.tracker.proofs.inner.mark.entry.Tie as tie
 
-boundary-requires : tie.Need-boundary-requires
-boundary-requires c κs = search needs
+below-root-requires : tie.Need-below-root-requires
+below-root-requires c κs = search needs
 
 returns : tie.Need-returns
-returns c = rw (c .boundary .ensures)
+returns c = rw (c .below-root .ensures)
 
 pub entry-spec : {M : Type 1} → statement M
-entry-spec = tie.close (tie.spec boundary-requires returns)
+entry-spec = tie.close (tie.spec below-root-requires returns)
