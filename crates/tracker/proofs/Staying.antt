@@ -1,18 +1,19 @@
--- A ready tracker stays ready, whatever call is accepted; the regime count wraps. Assumes nothing.
-use mathlib.Core.Path.{_≡_, ap}
+-- Sound stays sound and ready stays ready, whatever call is accepted; the regime count wraps. Assumes nothing.
+use mathlib.Core.Path.{_≡_, ap, refl}
 use mathlib.Core.Bool.{Bool, true, not, _&&_}
 use mathlib.Core.List.{List}
 use Prim.Native.Nat.{ℕ, _+_, _%_, _^_}
 use lib.Dec.{T, leb}
 use lib.ListN.{length}
-use lib.Ieee.{Float, binary32, fits}
+use lib.Ieee.{Float, binary32, fits, lt}
 use lib.Ieee.Positive.{positive}
 use Rattle.ranges.specs.Settings.{Settings, Good, Held}
-use Rattle.tracker.specs.Model.{Tracker, withPair}
-use Rattle.tracker.specs.Lock.{initialized, constrained}
+use Rattle.ranges.specs.Mean.{meanOf}
+use Rattle.tracker.specs.Model.{Tracker, withPair, Pair, withRecent, pushed}
+use Rattle.tracker.specs.Lock.{initialized, constrained, sorted, parts, bimodal, unimodal, asDahs, asDits, locked, learnt, started, observed, anchorsDit, anchorsDah, boundary}
 use Rattle.tracker.specs.Sound.{duration}
-use Rattle.tracker.specs.Steps.{timed, bound, setHint, onGap, canBegin, bootstrapped, seeded, reseeded, settled, turned, gapsSayDahs, resolved, relocked, onMark}
-use Rattle.tracker.proofs.Keeping.{by-cond, on-false, Up, mark-up, hint-sane, gap-up, begin-sane, seed-up, reseed-sane, settled-sane, resolve-sane}
+use Rattle.tracker.specs.Steps.{timed, bound, setHint, onGap, canBegin, bootstrapped, seeded, reseeded, settled, turned, gapsSayDahs, resolved, relocked, onMark, durations, uniform, drifts, fragment, drifted, recoveredBy, checked, entry, rung, followed, opened}
+use Rattle.tracker.proofs.Keeping.{by-cond, on-false, hint-sane, begin-sane, seed-up, reseed-sane, settled-sane, resolve-sane, on-true, Sane, mark-sane, gap-sane}
 
 -- the calls, with what they are given
 pub data Call : Type 0 where
@@ -42,7 +43,7 @@ Accepts reseed = Unit {0}
 Accepts settle = Unit {0}
 Accepts (resolve l) = Unit {0}
 
-abbrev Ready : Tracker → Type 0
+abbrev pub Ready : Tracker → Type 0
 Ready m = m .pair .ready ≡ true
 
 module _ (k : Settings) where
@@ -71,16 +72,72 @@ module _ (k : Settings) where
   unfolding resolved
   resolved-ready m l e = by-cond Ready (gapsSayDahs k (m .pair) l) (timed k (bound k (withPair m (turned (m .pair))))) m (λ x. bound-ready (withPair m (turned (m .pair))) e) (λ x. e)
 
+  gap-ready : (m : Tracker) (d : Float) → Ready m → Ready (onGap k m d)
+  unfolding onGap
+  gap-ready m d e = e
+
+  seeded-ready : (m : Tracker) (v : Float) → Ready (seeded k m v)
+  unfolding seeded
+  seeded-ready m v = refl
+
+  abbrev Is : Pair → Type 0
+  Is p = p .ready ≡ true
+
+  initialized-ready : (l : List Float) → Is (initialized k l)
+  unfolding locked
+  initialized-ready l =
+      let s = sorted l in
+      by-cond Is (parts s) (bimodal s) (unimodal k (meanOf s)) (λ e. refl) (λ e. by-cond Is (lt (k .ditMax) (meanOf s)) (asDahs (meanOf s)) (asDits (meanOf s)) (λ e. refl) (λ e. refl))
+
+  learnt-ready : (p : Pair) (v : Float) → Is p → Is (learnt k p v)
+  unfolding learnt
+  learnt-ready p v e =
+      by-cond Is (anchorsDit p v) _ _ (λ x. e) (λ x. by-cond Is (anchorsDah p v) _ _ (λ y. e) (λ y. by-cond Is (lt v (boundary p)) _ _ (λ z. e) (λ z. e)))
+
+  relocked-ready : (m : Tracker) (l : List Float) → Ready (relocked k m l)
+  relocked-ready m l = bound-ready (withPair m (initialized k l)) (initialized-ready l)
+
+  checked-ready : (m : Tracker) → Ready m → Ready (checked k m)
+  unfolding checked
+  checked-ready m e =
+      by-cond Ready (uniform (m .ring)) _ m
+      (λ x. by-cond Ready (drifts (m .ring)) (drifted k m) _ (λ y. relocked-ready m (m .recent)) (λ y. by-cond Ready (fragment m) (recoveredBy k m) m (λ z. relocked-ready m (durations (m .ring))) (λ z. e)))
+      (λ x. e)
+
+  followed-ready : (p : Pair) (m : Tracker) (d : Float) → Ready m → Ready (followed k p m d)
+  followed-ready p m d e = checked-ready (rung (bound k m) (entry p (bound k m .pair) d)) (bound-ready m e)
+
+  observed-ready : (p : Pair) (d : Float) → Is p → Is (observed k p d)
+  observed-ready p d e = on-true Is (p .ready) (learnt k p d) (started k p d) e (learnt-ready p d e)
+
+  mark-ready : (m : Tracker) (d : Float) → Ready m → Ready (onMark k m d)
+  unfolding onMark
+  mark-ready m d e =
+      let u = withPair (withRecent m (pushed 5 (m .recent) d)) (observed k (m .pair) d) in
+      on-true Ready (m .pair .ready) (followed k (m .pair) u d) (opened k u) e (followed-ready (m .pair) u d (observed-ready (m .pair) d e))
+
+  -- whatever the tracker is else
+  pub stays-ready : (c : Call) (m : Tracker) → Ready m → Ready (done k c m)
+  stays-ready (hint h) m e = hint-ready m h e
+  stays-ready (gap d) m e = gap-ready m d e
+  stays-ready (seed v) m e = seeded-ready m v
+  stays-ready (mark d) m e = mark-ready m d e
+  stays-ready finish m e = begun-ready m e
+  stays-ready reseed m e = reseeded-ready m e
+  stays-ready settle m e = settled-ready m e
+  stays-ready (resolve l) m e = resolved-ready m l e
+
 module _ (k : Settings) (G : Good k) (H : Held k) where
-  pub stays : (c : Call) (m : Tracker) → Accepts c → Up k G H m → Up k G H (done k c m)
-  stays (hint h) m a u = record { sane = hint-sane k G H m h (u .sane); ready = hint-ready k m h (u .ready) }
-  stays (gap d) m a u = gap-up k G H m d u (a .0) (a .1)
-  stays (seed v) m a u = seed-up k G H m v (u .sane) a
-  stays (mark d) m a u = mark-up k G H m d (u .sane) (a .0) (a .1) (u .ready)
-  stays finish m a u = record { sane = begin-sane k G H m (u .sane); ready = begun-ready k m (u .ready) }
-  stays reseed m a u = record { sane = reseed-sane k G H m (u .sane); ready = reseeded-ready k m (u .ready) }
-  stays settle m a u = record { sane = settled-sane k G H m (u .sane); ready = settled-ready k m (u .ready) }
-  stays (resolve l) m a u = record { sane = resolve-sane k G H m l (u .sane); ready = resolved-ready k m l (u .ready) }
+  -- sound stays sound
+  pub stays-sane : (c : Call) (m : Tracker) → Accepts c → Sane k G H m → Sane k G H (done k c m)
+  stays-sane (hint h) m a s = hint-sane k G H m h s
+  stays-sane (gap d) m a s = gap-sane k G H m d s (a .0) (a .1)
+  stays-sane (seed v) m a s = seed-up k G H m v s a .sane
+  stays-sane (mark d) m a s = mark-sane k G H m d s (a .0) (a .1)
+  stays-sane finish m a s = begin-sane k G H m s
+  stays-sane reseed m a s = reseed-sane k G H m s
+  stays-sane settle m a s = settled-sane k G H m s
+  stays-sane (resolve l) m a s = resolve-sane k G H m l s
 
 -- from 4,294,967,295 a new lock counts on to 0
 pub wraps : (k : Settings) (m : Tracker) (l : List Float) → m .regime ≡ 0xffff_ffff → relocked k m l .regime ≡ 0

@@ -8,9 +8,12 @@ use borrow.Author.Needs.{length-unmapped}
 use denote.RattleType.{Valss, owns}
 use denote.Shadow.{shadow}
 use denote.Struct.Declared.{shape}
+use Rattle.ranges.specs.Interval.{In}
+use Rattle.ranges.specs.Limits.{dahMin, dahMax}
 use Rattle.ranges.specs.Settings.{standard}
 use Rattle.ranges.proofs.Compare.{passed}
 use Rattle.ranges.proofs.Standard.{standard-good, standard-held}
+use Rattle.tracker.specs.Steps.{ditEstimate}
 use Rattle.tracker.specs.declared.SpeedTracker.{SpeedTracker}
 use Rattle.tracker.specs.Model.{Tracker, held, view}
 use Rattle.tracker.specs.Parts.{Counted}
@@ -18,7 +21,7 @@ use Rattle.tracker.specs.Sound.{sound}
 use Rattle.tracker.proofs.SpeedTracker.{the-type}
 use Rattle.tracker.proofs.Shifting.{unmapped}
 use Rattle.tracker.proofs.Soundness.{sound-fine, sound-by, proper-of}
-use Rattle.tracker.proofs.Keeping.{fitsOr, Floats, Sane}
+use Rattle.tracker.proofs.Keeping.{fitsOr, Floats, Sane, ready-dit, ready-dah, ready-estimate}
 
 held-fits : (b : Bool) (x : Float) → T (fits binary32 x) → T (fitsOr (held b x))
 held-fits true x f = f
@@ -48,3 +51,14 @@ ring-long t v g = unmapped _ (t .ring) 12 (g .1 .0 .1 .0 .1)
 
 pub recent-long : (t : SpeedTracker) (v : Valss (shape the-type .fields)) → shadow (owns (shape the-type .fields) (the-type .to t) v) → length (t .recent) ≡ 5
 recent-long t v g = length-unmapped Float (t .recent) 5 (g .1 .1 .1 .1 .1 .0 .1 .0 .1)
+
+-- ---- what a ready one says, for the layers above
+module _ (t : SpeedTracker) (s : T (sound standard t)) (e : t .pair .ready ≡ true) where
+  pub ready-dit-in : In (standard .ditMin) (standard .ditMax) (t .pair .lo)
+  ready-dit-in = ready-dit standard standard-good standard-held (view t) (sound-fine standard t s) e
+
+  pub ready-dah-in : In dahMin dahMax (t .pair .hi)
+  ready-dah-in = ready-dah standard standard-good standard-held (view t) (sound-fine standard t s) e
+
+  pub ready-estimate-in : In (standard .ditMin) (standard .ditMax) (ditEstimate standard (view t))
+  ready-estimate-in = ready-estimate standard standard-good standard-held (view t) (sound-fine standard t s) e

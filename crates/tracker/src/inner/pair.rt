@@ -45,7 +45,7 @@ pub(crate) fn constrain(p: ClusterPair, has_hint: bool, hint: f32) -> ClusterPai
 }
 
 // The geometric mean of the centroids.
-pub(crate) fn boundary(p: ClusterPair) -> f32
+pub fn boundary(p: ClusterPair) -> f32
     ensures { λ r. ⌜ r ≡ boundary (viewPair p) ⌝ }
 {
     root32(p.lo * p.hi)
