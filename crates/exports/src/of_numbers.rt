@@ -5,7 +5,7 @@ ghost use mathlib.Core.Path.{_≡_};
 ghost use lib.Ieee.{binary32, binary64, lt};
 ghost use lib.Ieee.Scale.{finite};
 ghost use Rattle.numbers.specs.Log.{lnSaid};
-ghost use Rattle.numbers.specs.Order.{clamp, larger, abs, negative, totalLess};
+ghost use Rattle.order.specs.Order.{clamp, larger, abs, negative, totalLess};
 ghost use Rattle.numbers.specs.Root.{sqrtOf, sqrtSaid};
 ghost use Rattle.numbers.specs.Values.{narrow};
 ghost use Rattle.exports.specs.Answers.{code, left};
@@ -74,7 +74,7 @@ pub extern "C" fn hullathan_clamp32(v: f32, lo: f32, hi: f32, out: &mut f32) -> 
     ensures { λ r. ⌜ r ≡ 0 ⌝ }
     ensures { λ _. ⌜ now (out .exit) ≡ clamp v lo hi ⌝ }
 {
-    *out = numbers::order::clamp32(v, lo, hi);
+    *out = order::clamp32(v, lo, hi);
     0
 }
 
@@ -84,7 +84,7 @@ pub extern "C" fn hullathan_max32(a: f32, b: f32, out: &mut f32) -> u8
     ensures { λ r. ⌜ r ≡ 0 ⌝ }
     ensures { λ _. ⌜ now (out .exit) ≡ larger a b ⌝ }
 {
-    *out = numbers::order::max32(a, b);
+    *out = order::max32(a, b);
     0
 }
 
@@ -94,7 +94,7 @@ pub extern "C" fn hullathan_abs32(v: f32, out: &mut f32) -> u8
     ensures { λ r. ⌜ r ≡ 0 ⌝ }
     ensures { λ _. ⌜ now (out .exit) ≡ abs v ⌝ }
 {
-    *out = numbers::order::abs32(v);
+    *out = order::abs32(v);
     0
 }
 
@@ -104,7 +104,7 @@ pub extern "C" fn hullathan_abs64(v: f64, out: &mut f64) -> u8
     ensures { λ r. ⌜ r ≡ 0 ⌝ }
     ensures { λ _. ⌜ now (out .exit) ≡ abs v ⌝ }
 {
-    *out = numbers::order::abs64(v);
+    *out = order::abs64(v);
     0
 }
 
@@ -114,7 +114,7 @@ pub extern "C" fn hullathan_is_finite32(v: f32, out: &mut bool) -> u8
     ensures { λ r. ⌜ r ≡ 0 ⌝ }
     ensures { λ _. ⌜ now (out .exit) ≡ finite v ⌝ }
 {
-    *out = numbers::order::is_finite32(v);
+    *out = order::is_finite32(v);
     0
 }
 
@@ -124,7 +124,7 @@ pub extern "C" fn hullathan_total_less32(a: f32, b: f32, out: &mut bool) -> u8
     ensures { λ r. ⌜ r ≡ 0 ⌝ }
     ensures { λ _. ⌜ now (out .exit) ≡ totalLess a b ⌝ }
 {
-    *out = numbers::order::total_less32(a, b);
+    *out = order::total_less32(a, b);
     0
 }
 
@@ -134,7 +134,7 @@ pub extern "C" fn hullathan_negative32(v: f32, out: &mut bool) -> u8
     ensures { λ r. ⌜ r ≡ 0 ⌝ }
     ensures { λ _. ⌜ now (out .exit) ≡ negative v ⌝ }
 {
-    *out = numbers::order::negative32(v);
+    *out = order::negative32(v);
     0
 }
 

@@ -43,7 +43,7 @@ module _ (m : ℕ) (M : 0 < m) (S : m < 2 ^ 32) where
       before : (x : ℕ) → 0 < x → x - 1 < x
       before x h = omega arith
 
--- ---- ln 2, ln 1, ln 0.5, the least f32, the largest
+-- ---- ln 2, ln 1, ln 0.5, ln 3, the root of 2, and 0.1 as an f32
 ln-two : lnOf (ofBits binary32 0x4000_0000) ≡ ofBits binary32 0x3f31_7218
 unfolding lnOf digits size round ofBits
 ln-two = refl
@@ -51,6 +51,10 @@ ln-two = refl
 ln-one : lnOf (ofBits binary32 0x3f80_0000) ≡ ofBits binary32 0
 unfolding lnOf digits size round ofBits
 ln-one = refl
+
+ln-half : lnOf (ofBits binary32 0x3f00_0000) ≡ ofBits binary32 0xbf31_7218
+unfolding lnOf digits size round ofBits
+ln-half = refl
 
 ln-three : lnOf (ofBits binary32 0x4040_0000) ≡ ofBits binary32 0x3f8c_9f54
 unfolding lnOf digits size round ofBits

@@ -2,7 +2,7 @@
 use mathlib.Core.Logic.{_⊎_}
 use mathlib.Core.Path.{_≡_}
 use mathlib.Core.Bool.{cond}
-use Prim.Native.Nat.{ℕ, _+_, _*_, _^_, _≤_, _<_}
+use Prim.Native.Nat.{ℕ, _+_, _-_, _*_, _%_, _^_, _≤_, _<_}
 use lib.Dec.{eqb}
 use lib.Ieee.{Float}
 use lib.Ieee.Exact.{HasValue}
@@ -21,6 +21,12 @@ pub record Extracted (m : ℕ) (r : Extract) : Type 0 where
   pub split : r .q * r .q + r .rest ≡ m * 2 ^ 48
   pub rests : r .rest ≤ 2 * r .q
   pub small : r .q < 2 ^ 56
+
+-- r is what is left of m * 2 ^ 48 below q * q, if q is the root's whole part, or the largest u64; an m that 256 divides and its root are not passed over
+pub record Rest (m q r : ℕ) : Type 0 where
+  pub split : (r ≡ 2 ^ 64 - 1 → ⊥) → q * q + r ≡ m * 2 ^ 48
+  pub rests : (r ≡ 2 ^ 64 - 1 → ⊥) → r ≤ 2 * q
+  pub found : (t : ℕ) → m % 256 ≡ 0 → t ≤ 2 * q → q * q + t ≡ m * 2 ^ 48 → r ≡ t
 
 -- w is twice the whole part q of the root of sig * 2 ^ sh * 2 ^ 48, and one more where that root is not whole
 pub record Rooted (sig j w k : ℕ) : Type 0 where

@@ -1,7 +1,6 @@
-// Roots, rounding and the logarithm of document 01, computed over whole numbers, and what Rust has for the order of floats.
+// Roots, rounding and the logarithm of document 01, computed over whole numbers.
 pub mod inner;
 pub mod log;
-pub mod order;
 pub mod root;
 pub mod rounding;
 

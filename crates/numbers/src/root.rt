@@ -8,12 +8,13 @@ use crate::rounding::nearest64;
 use crate::rounding::take_apart;
 ghost use mathlib.Core.Path.{_≡_};
 ghost use mathlib.Core.Bool.{cond};
-ghost use Prim.Native.Nat.{ℕ, _+_, _-_, _*_, _^_, _<_, _≤_};
+ghost use Prim.Native.Nat.{ℕ, _+_, _*_, _/_, _%_, _^_, _<_, _≤_};
 ghost use lib.Dec.{T, eqb};
 ghost use lib.Ieee.{binary32, binary64, ofBits, lt};
 ghost use lib.Ieee.Positive.{positive};
 ghost use Rattle.numbers.specs.Answers.{said32, said64};
-ghost use Rattle.numbers.specs.Parts.{Extracted, Rooted};
+ghost use Rattle.numbers.specs.Estimate.{newtonOf, nearPattern, estimate32Of, certifies, estimate64Of, correctedOf, liftedOf};
+ghost use Rattle.numbers.specs.Parts.{Extracted, Rest, Rooted};
 ghost use Rattle.numbers.specs.Root.{sqrtOf, sqrtSaid};
 
 // A root's leading digits and what is left below them.
@@ -48,22 +49,21 @@ pub(crate) fn extract_root(m: u64) -> Extract
 
 // x * 2^28 - y, or the largest number where that is below zero or x has more than 35 digits.
 fn lifted(x: u64, y: u64) -> u64
-    ensures { λ r. ⌜ (r < 2 ^ 64 - 1 → x * 2 ^ 28 ≡ y + r) ⌝ }
+    ensures { λ r. ⌜ r ≡ liftedOf x y ⌝ }
 {
     if 0x8_0000_0000 <= x {
         return 0xffff_ffff_ffff_ffff;
     }
-    let z = x << 28;
-    if z < y {
+    if x << 28 < y {
         return 0xffff_ffff_ffff_ffff;
     }
-    z - y
+    (x << 28) - y
 }
 
-// What is left of m * 2^48 below q * q, if q is its root's whole part; else a number above 2 * q.
+// What is left of m * 2^48 below q * q, if q is its root's whole part; else the largest number.
 fn rest_of(m: u64, q: u64) -> u64
     requires { ⌜ q < 2 ^ 56 ⌝ }
-    ensures { λ r. ⌜ (r ≤ 2 * q → q * q + r ≡ m * 2 ^ 48) ⌝ }
+    ensures { λ r. ⌜ Rest m q r ⌝ }
 {
     let a = q / 0x1000_0000;
     let b = q % 0x1000_0000;
@@ -74,15 +74,17 @@ fn rest_of(m: u64, q: u64) -> u64
         return 0xffff_ffff_ffff_ffff;
     }
     let d = lifted(m / 256 - a * a, 2 * (a * b));
-    if d == 0xffff_ffff_ffff_ffff {
-        return d;
+    let rest = lifted(d, b * b);
+    if 2 * q < rest {
+        return 0xffff_ffff_ffff_ffff;
     }
-    lifted(d, b * b)
+    rest
 }
 
 // m * 2^48 - q * q, modulo 2^64, for an m that 256 divides.
 fn residue(m: u64, q: u64) -> u64
     requires { ⌜ q < 2 ^ 56 ⌝ }
+    ensures { λ r. ⌜ (r + q * q) % 2 ^ 64 ≡ m / 256 * 2 ^ 56 % 2 ^ 64 ⌝ }
 {
     let a = q / 0x1000_0000;
     let b = q % 0x1000_0000;
@@ -91,9 +93,16 @@ fn residue(m: u64, q: u64) -> u64
     std::num::wrapping_sub_u64(e << 28, b * b)
 }
 
+// One step of Newton's towards 1 / the root of 2 * h.
+fn newton(y: f64, h: f64) -> f64
+    ensures { λ r. ⌜ r ≡ newtonOf y h ⌝ }
+{
+    y * (1.5 - h * y * y)
+}
+
 // The first 53 digits of a number near the root of m * 2^48, by float arithmetic.
 fn estimate64(m: u64) -> u64
-    ensures { λ r. ⌜ (2 ^ 55 ≤ r) × (r < 2 ^ 56) ⌝ }
+    ensures { λ r. ⌜ (r ≡ estimate64Of m) × (2 ^ 55 ≤ r) × (r < 2 ^ 56) ⌝ }
 {
     let z = u64::leading_zeros(m);
     if 1 < z {
@@ -110,11 +119,11 @@ fn estimate64(m: u64) -> u64
     0x80_0000_0000_0000
 }
 
-// q, moved by one step of Newton's in whole numbers. Nothing rests on it: what it gives is tested.
-fn corrected64(m: u64, q: u64) -> u64
+// q, moved by one step of Newton's in whole numbers; r is its residue.
+fn corrected64(q: u64, r: u64) -> u64
     requires { ⌜ (2 ^ 55 ≤ q) × (q < 2 ^ 56) ⌝ }
+    ensures { λ s. ⌜ s ≡ correctedOf q r ⌝ }
 {
-    let r = residue(m, q);
     if r < 0x8000_0000_0000_0000 {
         return q + r / (2 * q);
     }
@@ -125,15 +134,13 @@ fn corrected64(m: u64, q: u64) -> u64
 fn leading_root(m: u64) -> Extract
     ensures { λ r. ⌜ Extracted m r ⌝ }
 {
-    let q = corrected64(m, estimate64(m));
-    if 0x100_0000_0000_0000 <= q {
+    let q = estimate64(m);
+    let near = corrected64(q, residue(m, q)) % 0x100_0000_0000_0000;
+    let rest = rest_of(m, near);
+    if rest == 0xffff_ffff_ffff_ffff {
         return extract_root(m);
     }
-    let rest = rest_of(m, q);
-    if rest <= 2 * q {
-        return Extract { q, rest };
-    }
-    extract_root(m)
+    Extract { q: near, rest }
 }
 
 // 0 for 0, and 1 for any other number.
@@ -184,7 +191,9 @@ pub(crate) fn pattern_below(c: u32, v: f32) -> bool
 }
 
 // The pattern of the f32 nearest to r, where that is a normal number above zero, and else 0.
-fn near_pattern(r: f64) -> u32 {
+fn near_pattern(r: f64) -> u32
+    ensures { λ c. ⌜ c ≡ nearPattern r ⌝ }
+{
     if 0.0 < r {
         let b = f64::to_bits(r);
         if 0x3810_0000_0000_0000 <= b {
@@ -196,14 +205,10 @@ fn near_pattern(r: f64) -> u32 {
     0
 }
 
-// One step of Newton's towards 1 / the root of 2 * h.
-fn newton(y: f64, h: f64) -> f64 {
-    y * (1.5 - h * y * y)
-}
-
-// A pattern near that of the root of v, by float arithmetic. Nothing rests on it: what it gives is tested.
+// A pattern near that of the root of v, by float arithmetic.
 fn estimate32(v: f32) -> u32
     requires { ⌜ T (positive v) ⌝ }
+    ensures { λ c. ⌜ c ≡ estimate32Of v ⌝ }
 {
     let x = v as f64;
     let b = f64::to_bits(x);
@@ -215,22 +220,30 @@ fn estimate32(v: f32) -> u32
     near_pattern(x * newton(newton(newton(y, h), h), h))
 }
 
-// The root of a v that is finite and above zero, rounded to the nearest f32: a pattern near it, if the one before is below the root and it is not.
+// Whether the pattern c is the root's: a normal number, not below the root of v, and the one before it is.
+fn certified32(c: u32, v: f32) -> bool
+    requires { ⌜ T (positive v) ⌝ }
+    ensures { λ r. ⌜ r ≡ certifies c v ⌝ }
+{
+    if c <= 0x0080_0000 {
+        return false;
+    }
+    if 0x7f00_0000 <= c {
+        return false;
+    }
+    if pattern_below(c, v) {
+        return false;
+    }
+    pattern_below(c - 1, v)
+}
+
+// The root of a v that is finite and above zero, rounded to the nearest f32: an estimate, if it is the root, and else digit by digit.
 pub(crate) fn positive_root32(v: f32) -> f32
     requires { ⌜ T (positive v) ⌝ }
     ensures { λ r. ⌜ r ≡ sqrtOf binary32 v ⌝ }
 {
     let c = estimate32(v);
-    if c <= 0x0080_0000 {
-        return digits_root32(v);
-    }
-    if 0x7f00_0000 <= c {
-        return digits_root32(v);
-    }
-    if pattern_below(c, v) {
-        return digits_root32(v);
-    }
-    if pattern_below(c - 1, v) {
+    if certified32(c, v) {
         return f32::from_bits(c);
     }
     digits_root32(v)

@@ -26,11 +26,9 @@ fn far_rounded(m: u64) -> u64
 
 // m / 2^sh to the nearest whole number, a tie to the even one.
 pub(crate) fn rounded(m: u64, sh: u32) -> u64
+    requires { ⌜ 0 < sh ⌝ }
     ensures { λ r. ⌜ r ≡ closest m (2 ^ sh) ⌝ }
 {
-    if sh == 0 {
-        return m;
-    }
     if sh > 64 {
         return 0;
     }
@@ -143,6 +141,14 @@ fn normal32(neg: bool, m: u64, j: u16) -> f32
     pack32(neg, rounded(m, 29), (j - 896) as u32)
 }
 
+// The same for what is smaller.
+fn small32(neg: bool, m: u64, j: u16) -> f32
+    requires { ⌜ j ≤ 896 ⌝ }
+    ensures { λ r. ⌜ r ≡ round binary32 neg (m * 2 ^ j) (2 ^ 1074) ⌝ }
+{
+    nearest32(neg, m, j)
+}
+
 // The f32 nearest to v, a tie to the even one. A NaN gives a NaN, and an infinity the infinity.
 pub fn narrow(v: f64) -> f32
     ensures { λ r. ⌜ r ≡ narrow v ⌝ }
@@ -152,7 +158,7 @@ pub fn narrow(v: f64) -> f32
         if 896 < p.j {
             return normal32(p.neg, p.sig, p.j);
         }
-        return nearest32(p.neg, p.sig, p.j);
+        return small32(p.neg, p.sig, p.j);
     }
     if v != v {
         return 0.0 / 0.0;

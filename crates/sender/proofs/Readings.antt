@@ -15,7 +15,7 @@ use lib.Ieee.Scale.{finite}
 use lib.Ieee.Exact.{HasValue}
 use lib.Ieee.Positive.{positive, between}
 use borrow.Author.Tests.{lt-leb, le-leb}
-use Rattle.numbers.specs.Order.{clamp}
+use Rattle.order.specs.Order.{clamp}
 use Rattle.numbers.specs.Root.{sqrtOf, rootOf, floorRoot, rootIn}
 use Rattle.numbers.proofs.NearestRoot.{root-is-nearest}
 use Rattle.ranges.specs.Interval.{In}

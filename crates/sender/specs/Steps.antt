@@ -5,7 +5,7 @@ use Prim.Native.Nat.{ℕ, _+_, min}
 use lib.Dec.{leb}
 use lib.Ieee.{Float, binary32, add, sub, mul, div, le, lt}
 use lib.Ieee.Scale.{finite}
-use Rattle.numbers.specs.Order.{clamp, larger}
+use Rattle.order.specs.Order.{clamp, larger}
 use Rattle.numbers.specs.Root.{sqrtOf}
 use Rattle.ranges.specs.Limits.{nought, classWeight}
 use Rattle.sender.specs.declared.TimingClass.{TimingClass}

@@ -9,11 +9,6 @@ use Rattle.numbers.proofs.Plain.{plain, plain-finite, plain-widens}
 use borrow.Author.Needs.{needs}
 use Rattle.numbers.proofs.inner.ln_of.Statement.{statement}
 use Rattle.numbers.proofs.inner.ln_of.Tie as tie
-use Rattle.numbers.proofs.inner.ln_of.Reads as reads
-use Rattle.numbers.proofs.inner.ln_of.Lts as lts
-use Rattle.numbers.proofs.log.log_digits.Reads as log-digits-reads
-use Rattle.numbers.proofs.rounding.ratio32.Reads as ratio32-reads
-use Rattle.numbers.proofs.rounding.take_apart.Reads as take-apart-reads
 
 held : (c : tie.Start) → T (fits binary32 (c .args .v))
 held c = subst T (sym (c .good .0 .1)) tt

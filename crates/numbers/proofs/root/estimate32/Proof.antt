@@ -1,9 +1,11 @@
--- `numbers::root::estimate32` is safe. Assumes nothing.
-use mathlib.Core.Path.{sym, subst}
+-- `numbers::root::estimate32` meets its contract. Assumes nothing.
+use mathlib.Core.Path.{sym, ap, _∙_, subst}
 use Prim.Native.Nat.{_/_}
+use borrow.Author.Tests.{le-leb, lt-leb}
 use lib.Dec.{T}
-use lib.Ieee.{binary32, binary64, fits, toBits}
-use Rattle.numbers.proofs.Estimates.{guess-number}
+use lib.Ieee.{Float, binary32, binary64, fits, toBits, mul}
+use Rattle.numbers.specs.Estimate.{nearPattern, firstOf, halfOf}
+use Rattle.numbers.proofs.Estimates.{guess-number, thrice}
 use Rattle.numbers.proofs.Plain.{plain, plain-number, plain-widens}
 use borrow.Author.Needs.{needs}
 use Rattle.numbers.proofs.root.estimate32.Statement.{statement}
@@ -19,7 +21,7 @@ float-to-bits-b : tie.Need-float-to-bits-b
 float-to-bits-b c = plain-number (c .before .args .v) (plain (c .before .args .v) (c .before .pre))
 
 returns : tie.Need-returns
-returns c = search needs
+returns c = rw (le-leb _ _ (c .if1 .taken))
 
 sub-y : tie.Need-sub-y
 sub-y c = search needs
@@ -40,7 +42,14 @@ near-pattern-requires : tie.Need-near-pattern-requires
 near-pattern-requires c κs = search needs
 
 returns-2 : tie.Need-returns-2
-returns-2 c = search needs
+returns-2 c =
+    let n3 = c .before in
+    let n2 = n3 .before in
+    let n1 = n2 .before in
+    let v = n1 .before .before .before .args .v in
+    c .near-pattern .ensures
+    ∙ ap (λ (x : Float). nearPattern (mul binary64 v x)) (thrice (firstOf (toBits binary64 v)) (halfOf v) (n1 .newton .ensures) (n2 .newton2 .ensures) (n3 .newton3 .ensures))
+    ∙ rw (lt-leb _ _ (n1 .before .if1 .left))
 
 pub estimate32-spec : {M : Type 1} → statement M
 estimate32-spec =

@@ -1,11 +1,31 @@
 -- `numbers::root::estimate64` meets its contract. Assumes nothing.
-use Rattle.numbers.proofs.Estimates.{small-number, guess-number, le-number}
+use mathlib.Core.Path.{_≡_, ap, _∙_}
+use native.Mathlib.Omega.{arith}
+use borrow.Author.Tests.{lt-ltb, le-ltb}
+use Prim.Native.Nat.{ℕ}
+use lib.Count.{leadingZeros}
+use lib.Ieee.{Float, binary64, mul, ofBits}
+use Rattle.numbers.specs.Estimate.{newtonOf, firstOf, halfOf, patternOf, nearRoot}
+use Rattle.numbers.proofs.Estimates.{small-number, guess-number, le-number, thrice, digits-is, no-digits}
 use borrow.Author.Needs.{needs}
 use Rattle.numbers.proofs.root.estimate64.Statement.{statement}
 use Rattle.numbers.proofs.root.estimate64.Tie as tie
 
+-- the pattern of m / 2 ^ 62
+abbrev at : tie.Else1 → ℕ
+at c = patternOf (c .before .args .m) (leadingZeros 64 (c .before .args .m))
+
+near : (c : tie.After-newton4) → mul binary64 (ofBits binary64 (at (c .before .before .before .before))) (c .newton4 .result) ≡ nearRoot (at (c .before .before .before .before))
+near c =
+    let n3 = c .before in
+    let n2 = n3 .before in
+    let n1 = n2 .before in
+    let p = at (n1 .before) in
+    let h = halfOf (ofBits binary64 p) in
+    ap (mul binary64 (ofBits binary64 p)) (c .newton4 .ensures ∙ ap (λ (x : Float). newtonOf x h) (thrice (firstOf p) h (n1 .newton .ensures) (n2 .newton2 .ensures) (n3 .newton3 .ensures)))
+
 returns : tie.Need-returns
-returns c = search needs
+returns c = (rw (lt-ltb _ _ (c .if1 .taken)), omega arith, omega arith)
 
 cast-p : tie.Need-cast-p
 cast-p c = search needs
@@ -53,10 +73,10 @@ mul-result : tie.Need-mul-result
 mul-result c = search needs
 
 returns-2 : tie.Need-returns-2
-returns-2 c = search needs
+returns-2 c = (digits-is _ _ (near (c .before)) (c .if2 .taken) ∙ rw (le-ltb _ _ (c .before .before .before .before .before .if1 .left)), omega arith, omega arith)
 
 returns-3 : tie.Need-returns-3
-returns-3 c = search needs
+returns-3 c = (no-digits _ _ (near (c .before)) (c .if2 .left) ∙ rw (le-ltb _ _ (c .before .before .before .before .before .if1 .left)), omega arith, omega arith)
 
 pub estimate64-spec : {M : Type 1} → statement M
 estimate64-spec =

@@ -11,8 +11,6 @@ use lib.Pow.{pow-mono, pow-pos}
 use Rattle.numbers.proofs.LogLaws.{more}
 use Rattle.numbers.proofs.root.extract_root.Statement.{statement}
 use Rattle.numbers.proofs.root.extract_root.Tie as tie
-use Rattle.numbers.proofs.root.extract_root.Reads as reads
-use Rattle.numbers.proofs.root.extract_root.Lts as lts
 
 abbrev Good : ℕ → ℕ → ℕ → ℕ → ℕ → Type 0
 Good m left q rest i = (i ≤ 56) × (q * q + rest ≡ m * 4 ^ i / 2 ^ 64) × (left ≡ m * 4 ^ i % 2 ^ 64) × (rest ≤ 2 * q) × (q < 2 ^ i)

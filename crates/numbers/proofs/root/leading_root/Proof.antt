@@ -6,8 +6,14 @@ use Rattle.numbers.proofs.root.leading_root.Tie as tie
 estimate64-requires : tie.Need-estimate64-requires
 estimate64-requires c κs = search needs
 
+residue-requires : tie.Need-residue-requires
+residue-requires c κs = search needs
+
 corrected64-requires : tie.Need-corrected64-requires
 corrected64-requires c κs = search needs
+
+rest-of-requires : tie.Need-rest-of-requires
+rest-of-requires c κs = search needs
 
 extract-root-requires : tie.Need-extract-root-requires
 extract-root-requires c κs = search needs
@@ -15,31 +21,17 @@ extract-root-requires c κs = search needs
 returns : tie.Need-returns
 returns c = search needs
 
-rest-of-requires : tie.Need-rest-of-requires
-rest-of-requires c κs = search needs
-
-mul-if2 : tie.Need-mul-if2
-mul-if2 c = search needs
-
 returns-2 : tie.Need-returns-2
-returns-2 c = record { split = c .before .rest-of .ensures (c .if2 .taken); rests = c .if2 .taken; small = search needs }
-
-extract-root-requires-2 : tie.Need-extract-root-requires-2
-extract-root-requires-2 c κs = search needs
-
-returns-3 : tie.Need-returns-3
-returns-3 c = search needs
+returns-2 c = record { split = c .before .rest-of .ensures .split (c .if1 .left); rests = c .before .rest-of .ensures .rests (c .if1 .left); small = search needs }
 
 pub leading-root-spec : {M : Type 1} → statement M
 leading-root-spec =
     tie.close
     (tie.spec
     estimate64-requires
+    residue-requires
     corrected64-requires
+    rest-of-requires
     extract-root-requires
     returns
-    rest-of-requires
-    mul-if2
-    returns-2
-    extract-root-requires-2
-    returns-3)
+    returns-2)

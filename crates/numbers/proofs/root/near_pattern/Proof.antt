@@ -1,4 +1,5 @@
--- `numbers::root::near_pattern` is safe. Assumes nothing.
+-- `numbers::root::near_pattern` meets its contract. Assumes nothing.
+use borrow.Author.Tests.{lt-ltb, le-ltb, le-leb, lt-leb}
 use lib.Ieee.{binary64}
 use Rattle.numbers.proofs.Plain.{above-number}
 use borrow.Author.Needs.{needs}
@@ -18,16 +19,16 @@ cast-result : tie.Need-cast-result
 cast-result c = search needs
 
 returns : tie.Need-returns
-returns c = search needs
+returns c = rw (c .before .before .if1 .taken, le-leb _ _ (c .before .if2 .taken), lt-ltb _ _ (c .if3 .taken))
 
 returns-2 : tie.Need-returns-2
-returns-2 c = search needs
+returns-2 c = rw (c .before .before .if1 .taken, le-leb _ _ (c .before .if2 .taken), le-ltb _ _ (c .if3 .left))
 
 returns-3 : tie.Need-returns-3
-returns-3 c = search needs
+returns-3 c = rw (c .before .if1 .taken, lt-leb _ _ (c .if2 .left))
 
 returns-4 : tie.Need-returns-4
-returns-4 c = search needs
+returns-4 c = rw (c .if1 .left)
 
 pub near-pattern-spec : {M : Type 1} → statement M
 near-pattern-spec =

@@ -1,5 +1,5 @@
--- `numbers::root::residue` is safe. Assumes nothing.
-use Rattle.numbers.proofs.Estimates.{high-fits, cross-fits, double-fits, low-fits}
+-- `numbers::root::residue` meets its contract. Assumes nothing.
+use Rattle.numbers.proofs.Estimates.{high-fits, cross-fits, double-fits, low-fits, residue-is}
 use borrow.Author.Needs.{needs}
 use Rattle.numbers.proofs.root.residue.Statement.{statement}
 use Rattle.numbers.proofs.root.residue.Tie as tie
@@ -26,7 +26,9 @@ wrapping-sub-u64-requires-3 : tie.Need-wrapping-sub-u64-requires-3
 wrapping-sub-u64-requires-3 c κs = search needs
 
 returns : tie.Need-returns
-returns c = search needs
+returns c =
+    let s = c .before .before .before in
+    residue-is (s .args .q) (s .pre) (s .args .m) _ _ _ (c .before .before .wrapping-sub-u64 .ensures) (c .before .wrapping-sub-u642 .ensures) (c .wrapping-sub-u643 .ensures)
 
 pub residue-spec : {M : Type 1} → statement M
 residue-spec =

@@ -8,10 +8,6 @@ use Rattle.numbers.proofs.RootLaws.{sh, z-ge, z-le, large, small, shl-i
 use borrow.Author.Needs.{needs}
 use Rattle.numbers.proofs.root.root_of.Statement.{statement}
 use Rattle.numbers.proofs.root.root_of.Tie as tie
-use Rattle.numbers.proofs.root.root_of.Reads as reads
-use Rattle.numbers.proofs.root.root_of.Lts as lts
-use Rattle.numbers.proofs.root.any.Reads as any-reads
-use Rattle.numbers.proofs.root.leading_root.Reads as leading-root-reads
 
 bit : (b : Bool) → cond b 0 1 ≤ 1
 bit true = lit≤ tt

@@ -2,8 +2,6 @@
 use Rattle.numbers.proofs.Closest.{far-up, far-down}
 use Rattle.numbers.proofs.rounding.far_rounded.Statement.{statement}
 use Rattle.numbers.proofs.rounding.far_rounded.Tie as tie
-use Rattle.numbers.proofs.rounding.far_rounded.Reads as reads
-use Rattle.numbers.proofs.rounding.far_rounded.Lts as lts
 
 returns : tie.Need-returns
 returns c = far-up (c .before .args .m) (c .before .fits .m .fits) (c .if1 .taken)

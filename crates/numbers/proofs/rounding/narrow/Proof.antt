@@ -25,11 +25,11 @@ normal32-requires c κs = let p = c .before .before .take-apart in (⊎-elim (λ
 returns : tie.Need-returns
 returns c = c .normal32 .ensures ∙ narrow-value _ _ _ _ (pow-pos 1074) (c .before .before .before .take-apart .ensures .value)
 
-nearest32-requires : tie.Need-nearest32-requires
-nearest32-requires c κs = search needs
+small32-requires : tie.Need-small32-requires
+small32-requires c κs = search needs
 
 returns-2 : tie.Need-returns-2
-returns-2 c = c .nearest32 .ensures ∙ narrow-value _ _ _ _ (pow-pos 1074) (c .before .before .before .take-apart .ensures .value)
+returns-2 c = c .small32 .ensures ∙ narrow-value _ _ _ _ (pow-pos 1074) (c .before .before .before .take-apart .ensures .value)
 
 returns-3 : tie.Need-returns-3
 returns-3 c = narrow-nan (c .before .before .before .args .v) (c .if3 .taken)
@@ -48,7 +48,7 @@ narrow-spec =
     take-apart-requires
     normal32-requires
     returns
-    nearest32-requires
+    small32-requires
     returns-2
     returns-3
     returns-4

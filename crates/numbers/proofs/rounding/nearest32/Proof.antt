@@ -10,11 +10,6 @@ use lib.Ieee.{binary32}
 use Rattle.numbers.proofs.Rounds.{round-zero, Word, word}
 use Rattle.numbers.proofs.rounding.nearest32.Statement.{statement}
 use Rattle.numbers.proofs.rounding.nearest32.Tie as tie
-use Rattle.numbers.proofs.rounding.nearest32.Reads as reads
-use Rattle.numbers.proofs.rounding.nearest32.Lts as lts
-use Rattle.numbers.proofs.rounding.less.Reads as less-reads
-use Rattle.numbers.proofs.rounding.pack32.Reads as pack32-reads
-use Rattle.numbers.proofs.rounding.rounded.Reads as rounded-reads
 
 pack32-requires : tie.Need-pack32-requires
 pack32-requires c κs = (lit≤ tt, inl refl)

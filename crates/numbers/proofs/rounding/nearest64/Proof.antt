@@ -11,11 +11,6 @@ use Rattle.numbers.proofs.Rounds.{round-zero, Word, word}
 use borrow.Author.Needs.{needs}
 use Rattle.numbers.proofs.rounding.nearest64.Statement.{statement}
 use Rattle.numbers.proofs.rounding.nearest64.Tie as tie
-use Rattle.numbers.proofs.rounding.nearest64.Reads as reads
-use Rattle.numbers.proofs.rounding.nearest64.Lts as lts
-use Rattle.numbers.proofs.rounding.less.Reads as less-reads
-use Rattle.numbers.proofs.rounding.pack64.Reads as pack64-reads
-use Rattle.numbers.proofs.rounding.rounded.Reads as rounded-reads
 
 -- after `less`
 at : (c : tie.After-less) → Word binary64 (c .before .before .args .m) (c .before .before .args .j) (c .less .result) (c .less .result)

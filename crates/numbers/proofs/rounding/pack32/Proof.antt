@@ -10,10 +10,6 @@ use lib.Ieee.{binary32, nanBits, ofBits}
 use Rattle.numbers.proofs.Packs.{pattern, pattern-is, pattern-lt, pattern-number}
 use Rattle.numbers.proofs.rounding.pack32.Statement.{statement}
 use Rattle.numbers.proofs.rounding.pack32.Tie as tie
-use Rattle.numbers.proofs.rounding.pack32.Reads as reads
-use Rattle.numbers.proofs.rounding.pack32.Lts as lts
-use Rattle.numbers.proofs.rounding.capped32.Reads as capped32-reads
-use Rattle.numbers.proofs.rounding.sign32.Reads as sign32-reads
 
 module _ (c : tie.After-capped32) where
   k : ℕ

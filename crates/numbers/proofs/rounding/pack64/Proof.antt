@@ -10,10 +10,6 @@ use lib.Ieee.{binary64, nanBits, ofBits}
 use Rattle.numbers.proofs.Packs.{pattern, pattern-is, pattern-lt, pattern-number}
 use Rattle.numbers.proofs.rounding.pack64.Statement.{statement}
 use Rattle.numbers.proofs.rounding.pack64.Tie as tie
-use Rattle.numbers.proofs.rounding.pack64.Reads as reads
-use Rattle.numbers.proofs.rounding.pack64.Lts as lts
-use Rattle.numbers.proofs.rounding.capped64.Reads as capped64-reads
-use Rattle.numbers.proofs.rounding.sign64.Reads as sign64-reads
 
 module _ (c : tie.After-capped64) where
   k : ℕ

@@ -2,7 +2,7 @@
 use mathlib.Core.Path.{sym, ap, _∙_}
 use lib.Ieee.{Float}
 use borrow.Author.Needs.{needs}
-use Rattle.numbers.specs.Order.{clamp}
+use Rattle.order.specs.Order.{clamp}
 use Rattle.sender.specs.declared.TimingClass.the-variants.{CharGap, WordGap}
 use Rattle.sender.specs.Constants.{wordMin, wordMax}
 use Rattle.sender.specs.Model.{view}

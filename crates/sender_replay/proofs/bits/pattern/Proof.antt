@@ -1,7 +1,7 @@
 -- `sender_replay::bits::pattern` meets its contract. Assumes nothing.
 use mathlib.Core.Path.{sym, _∙_}
 use borrow.Author.Needs.{needs}
-use Rattle.numbers.proofs.OrderLaws.{nan-is}
+use Rattle.order.proofs.Laws.{nan-is}
 use Rattle.ranges.proofs.Compare.{failed}
 use Rattle.sender_replay.proofs.bits.pattern.Statement.{statement}
 use Rattle.sender_replay.proofs.bits.pattern.Tie as tie
