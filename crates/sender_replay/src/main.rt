@@ -15,6 +15,7 @@ use crate::lines::number_at;
 use crate::lines::show;
 use crate::sides::Said;
 use crate::sides::Turn;
+use crate::sides::done;
 use crate::sides::of_length;
 use crate::sides::of_ratio;
 use crate::sides::of_report;
@@ -31,49 +32,45 @@ mod bits;
 mod lines;
 mod sides;
 
+// The statistics with a class set as the line says.
+fn set(t: SenderTiming, line: &[u8; 31]) -> SenderTiming {
+    let mean = Dits(float(number_at(line, 4)));
+    let var = float(number_at(line, 13));
+    let n = number_at(line, 22);
+    with_class(t, class_at(line), ClassStats { mean, var, n })
+}
+
+fn observe(t: SenderTiming, line: &[u8; 31]) -> Turn {
+    let dur_ms = Millis(float(number_at(line, 4)));
+    let dit_ms = Millis(float(number_at(line, 13)));
+    let r = t.observe(class_at(line), dur_ms, dit_ms);
+    let told = r.told;
+    let said = of_told(told);
+    let timing = r.timing;
+    Turn { said, timing }
+}
+
+fn estimates(t: SenderTiming, line: &[u8; 31]) -> Turn {
+    let r = t.estimates(Millis(float(number_at(line, 4))));
+    let said = of_report(r);
+    let timing = reported(r, t);
+    Turn { said, timing }
+}
+
 // One call.
 fn call(t: SenderTiming, line: &[u8; 31]) -> Turn {
-    let class = class_at(line);
-    let a = float(number_at(line, 4));
-    let b = float(number_at(line, 13));
     let letter = line[0];
-    if letter == 78 {
-        let fresh = SenderTiming::new();
-        return Turn {
-            said: Said { kind: 68, value: 0 },
-            timing: fresh,
-        };
+    if letter == b'N' {
+        return done(SenderTiming::new());
     }
-    if letter == 83 {
-        let set = with_class(
-            t,
-            class,
-            ClassStats {
-                mean: Dits(a),
-                var: b,
-                n: number_at(line, 22),
-            },
-        );
-        return Turn {
-            said: Said { kind: 68, value: 0 },
-            timing: set,
-        };
+    if letter == b'S' {
+        return done(set(t, line));
     }
-    if letter == 79 {
-        let r = t.observe(class, Millis(a), Millis(b));
-        let told = r.told;
-        let said = of_told(told);
-        let next = r.timing;
-        return Turn { said, timing: next };
+    if letter == b'O' {
+        return observe(t, line);
     }
-    if letter == 69 {
-        let r = t.estimates(Millis(a));
-        let said = of_report(r);
-        let shown = reported(r, t);
-        return Turn {
-            said,
-            timing: shown,
-        };
+    if letter == b'E' {
+        return estimates(t, line);
     }
     let said = read(t, letter, line);
     Turn { said, timing: t }
@@ -81,13 +78,13 @@ fn call(t: SenderTiming, line: &[u8; 31]) -> Turn {
 
 // One call that only reads.
 fn read(t: SenderTiming, letter: u8, line: &[u8; 31]) -> Said {
-    if letter == 77 {
+    if letter == b'M' {
         return of_length(t.mean_dits(class_at(line)));
     }
-    if letter == 82 {
+    if letter == b'R' {
         return of_ratio(t.dash_dot_ratio());
     }
-    if letter == 87 {
+    if letter == b'W' {
         return of_length(t.sender_word_dits());
     }
     of_yes(t.is_pause(Dits(float(number_at(line, 4)))))
@@ -107,7 +104,7 @@ fn step(t: SenderTiming) -> After {
         let letter = line[0];
         let more = show(letter, turn);
         let mut next = turn.timing;
-        if letter == 69 {
+        if letter == b'E' {
             next = t;
         }
         return After { timing: next, more };

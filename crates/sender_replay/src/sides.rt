@@ -24,14 +24,27 @@ pub(crate) struct Turn {
 
 fn refused(n: u8) -> Said {
     Said {
-        kind: 82,
+        kind: b'R',
         value: n as u32,
+    }
+}
+
+pub(crate) fn done(timing: SenderTiming) -> Turn {
+    Turn {
+        said: Said {
+            kind: b'D',
+            value: 0,
+        },
+        timing,
     }
 }
 
 pub(crate) fn of_told(t: Told) -> Said {
     match t {
-        Told::Done => Said { kind: 68, value: 0 },
+        Told::Done => Said {
+            kind: b'D',
+            value: 0,
+        },
         Told::Refused(n) => refused(n),
     }
 }
@@ -39,10 +52,13 @@ pub(crate) fn of_told(t: Told) -> Said {
 pub(crate) fn of_length(l: Length) -> Said {
     match l {
         Length::Is(x) => Said {
-            kind: 76,
+            kind: b'L',
             value: pattern(x.0),
         },
-        Length::Absent => Said { kind: 65, value: 0 },
+        Length::Absent => Said {
+            kind: b'A',
+            value: 0,
+        },
         Length::Refused(n) => refused(n),
     }
 }
@@ -50,10 +66,13 @@ pub(crate) fn of_length(l: Length) -> Said {
 pub(crate) fn of_ratio(r: Ratio) -> Said {
     match r {
         Ratio::Is(x) => Said {
-            kind: 81,
+            kind: b'Q',
             value: pattern(x),
         },
-        Ratio::Absent => Said { kind: 65, value: 0 },
+        Ratio::Absent => Said {
+            kind: b'A',
+            value: 0,
+        },
         Ratio::Refused(n) => refused(n),
     }
 }
@@ -62,9 +81,15 @@ pub(crate) fn of_yes(y: Yes) -> Said {
     match y {
         Yes::Is(b) => {
             if b {
-                return Said { kind: 89, value: 1 };
+                return Said {
+                    kind: b'Y',
+                    value: 1,
+                };
             }
-            Said { kind: 89, value: 0 }
+            Said {
+                kind: b'Y',
+                value: 0,
+            }
         }
         Yes::Refused(n) => refused(n),
     }
@@ -73,7 +98,7 @@ pub(crate) fn of_yes(y: Yes) -> Said {
 pub(crate) fn of_report(r: Report) -> Said {
     match r {
         Report::Is(e) => Said {
-            kind: 84,
+            kind: b'T',
             value: pattern(e.dit_ms.0),
         },
         Report::Refused(n) => refused(n),
