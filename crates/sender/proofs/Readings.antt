@@ -15,7 +15,7 @@ use lib.Ieee.Scale.{finite}
 use lib.Ieee.Exact.{HasValue}
 use lib.Ieee.Positive.{positive, between}
 use borrow.Author.Tests.{lt-leb, le-leb}
-use Rattle.order.specs.Order.{clamp}
+use Rattle.order.specs.Order.{clamp, larger}
 use Rattle.numbers.specs.Root.{sqrtOf, rootOf, floorRoot, rootIn}
 use Rattle.numbers.proofs.NearestRoot.{root-is-nearest}
 use Rattle.ranges.specs.Interval.{In}
@@ -27,10 +27,10 @@ use Rattle.ranges.proofs.Door.{not-positive}
 use Rattle.ranges.proofs.Clamp as C
 use Rattle.sender.specs.declared.ClassStats.{ClassStats}
 use Rattle.sender.specs.declared.TimingClass.the-variants.{CharGap, WordGap}
-use Rattle.sender.specs.Constants.{nominalRatio, wordMin, wordMax, ratioCount}
+use Rattle.sender.specs.Constants.{nominalRatio, wordMin, wordMax, pauseMin, pauseTimes, ratioCount}
 use Rattle.sender.specs.Model.{Class, Timing, viewClass}
 use Rattle.sender.specs.Sound.{classSound, sound}
-use Rattle.sender.specs.Steps.{enough, ratio, boundary, wordDits}
+use Rattle.sender.specs.Steps.{enough, ratio, boundary, wordDits, charGapOr, pauses}
 use Rattle.sender.specs.Answers.{length, unless, stateRefusal, optional, wordSaid}
 use Rattle.sender.proofs.Views.{some-at, sound-at}
 use Rattle.sender.proofs.Samples.{mean-in}
@@ -154,3 +154,14 @@ word-said-in t x e = go (sound t) (λ h. h) e
     go : (b : Bool) → (T b → T (sound t)) → unless (cond b 0 1) (wordSaid t) ≡ length x → In wordMin wordMax x
     go true h e = said-in (t .charGap) (t .wordGap) x (sound-at CharGap t (h tt)) (sound-at WordGap t (h tt)) e
     go false h e = let z : _≡_ {A = ℕ} 0 1 = cc in absurd (lt-irrefl 0 (subst (λ (n : ℕ). 0 < n) (sym z) (zero-lt-suc 0)))
+
+-- "`is_pause` of NaN is no"
+nothing-below-nan : (x : Float) → le x nan ≡ false
+unfolding le
+nothing-below-nan nan = refl
+nothing-below-nan (inf s) = refl
+nothing-below-nan (fin s m e) = refl
+
+pub pause-of-nan : (t : Timing) → pauses nan t ≡ false
+unfolding pauses
+pause-of-nan t = nothing-below-nan (larger pauseMin (mul binary32 pauseTimes (charGapOr t)))
