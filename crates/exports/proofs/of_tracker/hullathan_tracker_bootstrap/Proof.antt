@@ -13,7 +13,7 @@ said-requires : tie.Need-said-requires
 said-requires c κs = search needs
 
 returns : tie.Need-returns
-returns c = (c .said .ensures .0 .0 ∙ ap code (c .before .bootstrap .ensures .says), (c .said .ensures .0 .1 ∙ ap yes (c .before .bootstrap .ensures .says), handed (c .before .bootstrap .ensures) (c .said .ensures .1)))
+returns c = (c .said .ensures .0 ∙ ap code (c .before .bootstrap .ensures .says), (c .said .ensures .1 ∙ ap yes (c .before .bootstrap .ensures .says), handed (c .before .bootstrap .ensures) (c .said .ensures .2)))
 
 pub hullathan-tracker-bootstrap-spec : {M : Type 1} → statement M
 hullathan-tracker-bootstrap-spec = tie.close (tie.spec bootstrap-requires said-requires returns)

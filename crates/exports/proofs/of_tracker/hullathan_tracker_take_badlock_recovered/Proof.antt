@@ -15,7 +15,7 @@ said-requires : tie.Need-said-requires
 said-requires c κs = search needs
 
 returns : tie.Need-returns
-returns c = (c .said .ensures .0 .0 ∙ ap code (c .before .take-badlock-recovered .ensures .says), (c .said .ensures .0 .1 ∙ ap yes (c .before .take-badlock-recovered .ensures .says), handed (c .before .take-badlock-recovered .ensures) (c .said .ensures .1)))
+returns c = (c .said .ensures .0 ∙ ap code (c .before .take-badlock-recovered .ensures .says), (c .said .ensures .1 ∙ ap yes (c .before .take-badlock-recovered .ensures .says), handed (c .before .take-badlock-recovered .ensures) (c .said .ensures .2)))
 
 pub hullathan-tracker-take-badlock-recovered-spec : {M : Type 1} → statement M
 hullathan-tracker-take-badlock-recovered-spec =
