@@ -214,3 +214,229 @@ pub mod sender {
         }
     }
 }
+
+/// The speed tracker, as C has it.
+pub mod tracker {
+    /// One mark of the ring.
+    #[repr(C)]
+    #[derive(Debug, Clone, Copy, Default)]
+    pub struct RingEntry {
+        pub dur_ms: f32,
+        pub assigned_dit: bool,
+        pub pre_lo: f32,
+        pub pre_hi: f32,
+    }
+
+    #[repr(C)]
+    #[derive(Debug, Clone, Copy, Default)]
+    pub struct ClusterPair {
+        pub lo: f32,
+        pub hi: f32,
+        pub init: [f32; 12],
+        pub init_len: usize,
+        pub ready: bool,
+        pub confirmed: bool,
+        pub placeholder_is_lo: bool,
+        pub lo_n: usize,
+    }
+
+    #[repr(C)]
+    #[derive(Debug, Clone, Copy, Default)]
+    pub struct SpeedTracker {
+        pub pair: ClusterPair,
+        pub ring: [RingEntry; 12],
+        pub ring_len: usize,
+        pub has_wpm: bool,
+        pub wpm_ema: f32,
+        pub recent: [f32; 5],
+        pub recent_len: usize,
+        pub has_egap: bool,
+        pub mu_egap_ms: f32,
+        pub has_hint: bool,
+        pub ratio_hint: f32,
+        pub regime: u32,
+        pub badlock_recovered: bool,
+        pub lo_uncorroborated: bool,
+    }
+
+    #[repr(C)]
+    #[derive(Debug, Clone, Copy)]
+    pub struct Told {
+        pub code: u8,
+        pub tracker: SpeedTracker,
+    }
+
+    #[repr(C)]
+    #[derive(Debug, Clone, Copy)]
+    pub struct Flagged {
+        pub code: u8,
+        pub yes: bool,
+        pub tracker: SpeedTracker,
+    }
+
+    #[repr(C)]
+    #[derive(Debug, Clone, Copy)]
+    pub struct Number {
+        pub code: u8,
+        pub has: bool,
+        pub value: f32,
+    }
+
+    #[repr(C)]
+    #[derive(Debug, Clone, Copy)]
+    pub struct Flag {
+        pub code: u8,
+        pub yes: bool,
+    }
+
+    #[repr(C)]
+    #[derive(Debug, Clone, Copy)]
+    pub struct Count {
+        pub code: u8,
+        pub value: u32,
+    }
+
+    mod c {
+        use super::*;
+
+        extern "C" {
+            pub fn hullathan_tracker_new() -> SpeedTracker;
+            pub fn hullathan_tracker_ready(t: SpeedTracker) -> Flag;
+            pub fn hullathan_tracker_mu_dit_ms(t: SpeedTracker) -> Number;
+            pub fn hullathan_tracker_mu_dah_ms(t: SpeedTracker) -> Number;
+            pub fn hullathan_tracker_boundary_ms(t: SpeedTracker) -> Number;
+            pub fn hullathan_tracker_wpm(t: SpeedTracker) -> Number;
+            pub fn hullathan_tracker_regime(t: SpeedTracker) -> Count;
+            pub fn hullathan_tracker_mu_egap_ms(t: SpeedTracker) -> Number;
+            pub fn hullathan_tracker_dit_estimate_ms(t: SpeedTracker) -> Number;
+            pub fn hullathan_tracker_set_ratio_hint(t: SpeedTracker, hint: f32) -> Told;
+            pub fn hullathan_tracker_on_element_gap(t: SpeedTracker, dur_ms: f32) -> Told;
+            pub fn hullathan_tracker_take_badlock_recovered(t: SpeedTracker) -> Flagged;
+            pub fn hullathan_tracker_bootstrap(t: SpeedTracker) -> Flagged;
+            pub fn hullathan_tracker_seed_wpm(t: SpeedTracker, wpm: f32) -> Told;
+            pub fn hullathan_tracker_on_mark(t: SpeedTracker, dur_ms: f32) -> Told;
+            pub fn hullathan_tracker_reseed_wpm_after_warmup(t: SpeedTracker) -> Told;
+            pub fn hullathan_tracker_resolve_unimodal_bootstrap(t: SpeedTracker, gaps_ms: *const f32, count: usize) -> Flagged;
+            pub fn hullathan_inner_tracker_on_mark(t: SpeedTracker, dur_ms: f32) -> SpeedTracker;
+        }
+    }
+
+    // Safety of each: the library is proved to take every number, and reads of what is lent to it only the list's entries.
+
+    pub fn new() -> SpeedTracker {
+        unsafe { c::hullathan_tracker_new() }
+    }
+
+    pub fn ready(t: SpeedTracker) -> Flag {
+        unsafe { c::hullathan_tracker_ready(t) }
+    }
+
+    pub fn mu_dit_ms(t: SpeedTracker) -> Number {
+        unsafe { c::hullathan_tracker_mu_dit_ms(t) }
+    }
+
+    pub fn mu_dah_ms(t: SpeedTracker) -> Number {
+        unsafe { c::hullathan_tracker_mu_dah_ms(t) }
+    }
+
+    pub fn boundary_ms(t: SpeedTracker) -> Number {
+        unsafe { c::hullathan_tracker_boundary_ms(t) }
+    }
+
+    pub fn wpm(t: SpeedTracker) -> Number {
+        unsafe { c::hullathan_tracker_wpm(t) }
+    }
+
+    pub fn regime(t: SpeedTracker) -> Count {
+        unsafe { c::hullathan_tracker_regime(t) }
+    }
+
+    pub fn mu_egap_ms(t: SpeedTracker) -> Number {
+        unsafe { c::hullathan_tracker_mu_egap_ms(t) }
+    }
+
+    pub fn dit_estimate_ms(t: SpeedTracker) -> Number {
+        unsafe { c::hullathan_tracker_dit_estimate_ms(t) }
+    }
+
+    pub fn set_ratio_hint(t: SpeedTracker, hint: f32) -> Told {
+        unsafe { c::hullathan_tracker_set_ratio_hint(t, hint) }
+    }
+
+    pub fn on_element_gap(t: SpeedTracker, dur_ms: f32) -> Told {
+        unsafe { c::hullathan_tracker_on_element_gap(t, dur_ms) }
+    }
+
+    pub fn take_badlock_recovered(t: SpeedTracker) -> Flagged {
+        unsafe { c::hullathan_tracker_take_badlock_recovered(t) }
+    }
+
+    pub fn bootstrap(t: SpeedTracker) -> Flagged {
+        unsafe { c::hullathan_tracker_bootstrap(t) }
+    }
+
+    pub fn seed_wpm(t: SpeedTracker, wpm: f32) -> Told {
+        unsafe { c::hullathan_tracker_seed_wpm(t, wpm) }
+    }
+
+    pub fn on_mark(t: SpeedTracker, dur_ms: f32) -> Told {
+        unsafe { c::hullathan_tracker_on_mark(t, dur_ms) }
+    }
+
+    pub fn reseed_wpm_after_warmup(t: SpeedTracker) -> Told {
+        unsafe { c::hullathan_tracker_reseed_wpm_after_warmup(t) }
+    }
+
+    pub fn resolve_unimodal_bootstrap(t: SpeedTracker, gaps_ms: &[f32]) -> Flagged {
+        unsafe { c::hullathan_tracker_resolve_unimodal_bootstrap(t, gaps_ms.as_ptr(), gaps_ms.len()) }
+    }
+
+    /// One mark, with no test of the tracker or the mark.
+    ///
+    /// # Safety
+    ///
+    /// The tracker is one that the library handed back, and the mark lies from 1/64 to 262,144.
+    pub unsafe fn inner_on_mark(t: SpeedTracker, dur_ms: f32) -> SpeedTracker {
+        c::hullathan_inner_tracker_on_mark(t, dur_ms)
+    }
+
+    #[cfg(test)]
+    mod tests {
+        use super::*;
+        use std::mem::{offset_of, size_of};
+
+        /// The structs lie as C lays them: the library reads and writes them so.
+        #[test]
+        fn layout() {
+            assert_eq!((size_of::<RingEntry>(), offset_of!(RingEntry, pre_hi)), (16, 12));
+            assert_eq!((size_of::<ClusterPair>(), offset_of!(ClusterPair, lo_n)), (80, 72));
+            assert_eq!(offset_of!(ClusterPair, init_len), 56);
+            assert_eq!((size_of::<SpeedTracker>(), offset_of!(SpeedTracker, ring_len)), (344, 272));
+            assert_eq!(offset_of!(SpeedTracker, wpm_ema), 284);
+            assert_eq!(offset_of!(SpeedTracker, recent_len), 312);
+            assert_eq!(offset_of!(SpeedTracker, ratio_hint), 332);
+            assert_eq!(offset_of!(SpeedTracker, lo_uncorroborated), 341);
+            assert_eq!((size_of::<Told>(), offset_of!(Told, tracker)), (352, 8));
+            assert_eq!((size_of::<Flagged>(), offset_of!(Flagged, tracker)), (352, 8));
+        }
+
+        /// Document 01's settled examples, through the library.
+        #[test]
+        fn settled_examples() {
+            let after = |marks: &[f32]| {
+                let t = marks.iter().fold(new(), |t, &m| {
+                    let r = on_mark(t, m);
+                    assert_eq!(r.code, 0);
+                    r.tracker
+                });
+                (mu_dit_ms(t).value, mu_dah_ms(t).value)
+            };
+            assert_eq!(after(&[60.0; 5]), (60.0, 180.0));
+            assert_eq!(after(&[50.0, 50.0, 150.0, 150.0, 50.0]), (50.0, 150.0));
+            assert_eq!(after(&[50.0, 100.0, 100.0, 100.0, 100.0]), (50.0, 150.0));
+            assert_eq!(after(&[1000.0; 5]), (150.0, 450.0));
+            assert_eq!(after(&[300.0, 300.0, 300.0, 300.0, 300.0, 50.0]), (50.0, 300.0));
+            assert_eq!(after(&[50.0, 50.0, 200.0, 200.0, 200.0, 100.0]), (50.0, 185.0));
+        }
+    }
+}

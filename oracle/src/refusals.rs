@@ -1,5 +1,7 @@
 //! The refusals of document 01, "Refusals in checking order", written from the paper: what the library must refuse, and by which number.
 
+use crate::hullathan::tracker::SpeedTracker;
+
 /// A number within limits; a NaN is outside every range.
 pub fn within(low: f32, high: f32, x: f32) -> bool {
     x >= low && x <= high
@@ -39,6 +41,53 @@ pub fn dit(dit_ms: f32) -> Result<(), u8> {
 /// 1, of one observed class: a mean outside 0.0001 to 13,108, or a variance negative or not finite.
 pub fn class(mean: f32, var: f32) -> Result<(), u8> {
     if within(0.0001, 13_108.0, mean) && var.is_finite() && !(var < 0.0) {
+        Ok(())
+    } else {
+        Err(1)
+    }
+}
+
+/// 4: a list of marks or gaps has more than 12 entries.
+pub fn list(entries: &[f32]) -> Result<(), u8> {
+    if entries.len() > 12 {
+        Err(4)
+    } else {
+        Ok(())
+    }
+}
+
+/// Of refusal 1: a ready tracker's dit and dah, and those of an entry of its ring.
+fn centroids(dit: f32, dah: f32) -> bool {
+    within(20.0, 150.0, dit) && within(16.0, 2_500.0, dah)
+}
+
+/// Of refusal 1: a number held that is finite and positive.
+fn positive(held: bool, x: f32) -> bool {
+    !held || x.is_finite() && x > 0.0
+}
+
+/// 1, of a tracker.
+pub fn tracker(t: &SpeedTracker) -> Result<(), u8> {
+    let p = &t.pair;
+    // "a count above its capacity": start marks 12, recent 5, ring 12
+    if p.init_len > 12 || t.recent_len > 5 || t.ring_len > 12 {
+        return Err(1);
+    }
+    let (init, recent, ring) = (&p.init[..p.init_len], &t.recent[..t.recent_len], &t.ring[..t.ring_len]);
+    let settled = if p.ready {
+        centroids(p.lo, p.hi)
+    } else {
+        p.lo.to_bits() == 0 && p.hi.to_bits() == 0 && init.len() <= 4
+    };
+    // "a held duration that 5 to 7 would refuse"
+    let held = init.iter().chain(recent).copied().chain(ring.iter().map(|e| e.dur_ms));
+    let sound = settled
+        && held.into_iter().all(|d| duration(d).is_ok())
+        && ring.iter().all(|e| centroids(e.pre_lo, e.pre_hi))
+        && positive(t.has_wpm, t.wpm_ema)
+        && positive(t.has_egap, t.mu_egap_ms)
+        && (!t.has_hint || within(2.2, 6.0, t.ratio_hint));
+    if sound {
         Ok(())
     } else {
         Err(1)

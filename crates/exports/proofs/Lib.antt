@@ -1,2 +1,3 @@
 pub mod Answers
 pub mod Classes
+pub mod Handing

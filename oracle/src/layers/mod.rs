@@ -5,6 +5,8 @@ use crate::compare::{report, Limit};
 pub mod numbers;
 #[cfg(manta)]
 pub mod sender;
+#[cfg(manta)]
+pub mod tracker;
 
 /// Runs a layer from a seed up to a limit, and prints what was seen. Whether nothing was wrong.
 type Report = fn(u64, Limit) -> bool;
@@ -22,9 +24,10 @@ pub struct Entry {
 /// The layers beside manta's Rust; without it nothing is run.
 #[cfg(manta)]
 mod beside_manta {
-    use super::{report, sender, Report};
+    use super::{report, sender, tracker, Report};
 
     pub const SENDER: Report = report::<sender::Sender>;
+    pub const TRACKER: Report = report::<tracker::Tracker>;
 }
 
 #[cfg(not(manta))]
@@ -32,6 +35,7 @@ mod beside_manta {
     use super::Report;
 
     pub const SENDER: Report = |_, _| false;
+    pub const TRACKER: Report = |_, _| false;
 }
 
 pub const LAYERS: &[Entry] = &[
@@ -46,5 +50,11 @@ pub const LAYERS: &[Entry] = &[
         gate: 10,
         needs_manta: true,
         report: beside_manta::SENDER,
+    },
+    Entry {
+        name: "tracker",
+        gate: 45,
+        needs_manta: true,
+        report: beside_manta::TRACKER,
     },
 ];

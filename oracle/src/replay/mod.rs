@@ -1,6 +1,7 @@
 //! Fixed lists of calls for the programs that replay them, and what they must print: by manta's Rust and the refusals of document 01.
 
 pub mod sender;
+pub mod tracker;
 
 /// What a program reads, and what it must print.
 pub struct Files {
@@ -12,6 +13,7 @@ pub struct Files {
 pub fn files(layer: &str) -> Option<Files> {
     match layer {
         "sender" => Some(sender::files()),
+        "tracker" => Some(tracker::files()),
         _ => None,
     }
 }

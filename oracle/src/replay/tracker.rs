@@ -1,0 +1,277 @@
+//! The list of calls that the program `tracker_replay` runs: worked examples, keyed text, and lists made as short as they can be
+//! that reach every branch (`oracle replay tracker` looks for them among the random ones).
+//!
+//! A line of the script is a letter, a digit and three fields of 8 hexadecimal digits, with blanks between. The letters: M on_mark,
+//! G on_element_gap, W seed_wpm, H set_ratio_hint, each with its number in the first field; F bootstrap, T take_badlock_recovered,
+//! R reseed_wpm_after_warmup; L puts a gap on the list, and U calls resolve_unimodal_bootstrap with the list and empties it; V reads; S
+//! sets a part (its number, its place, its value); N starts anew. An answer is the letter, the code and whether it said yes, or for V
+//! each reading with its code; then the tracker, lists with their counts before them, absent numbers left out.
+
+use super::{float, Files};
+use crate::compare::Layer;
+use crate::hullathan::tracker::SpeedTracker as Plain;
+use crate::layers::tracker::{random_case, Both, Call, Part, Told, Tracker, PARTS};
+use crate::random::Random;
+use crate::shrink::{shrink, smaller_list};
+use std::collections::BTreeSet;
+
+const STDIN: &str = include_str!("../../../crates/tracker_replay/stdin");
+
+fn line(letter: char, a: u32, b: u32, c: u32) -> String {
+    format!("{letter} 0 {a:08X} {b:08X} {c:08X}\n")
+}
+
+fn lines(call: &Call) -> String {
+    match call {
+        Call::Mark(d) => line('M', *d, 0, 0),
+        Call::Gap(d) => line('G', *d, 0, 0),
+        Call::Seed(w) => line('W', *w, 0, 0),
+        Call::Hint(h) => line('H', *h, 0, 0),
+        Call::Finish => line('F', 0, 0, 0),
+        Call::Take => line('T', 0, 0, 0),
+        Call::Reseed => line('R', 0, 0, 0),
+        Call::Resolve(gaps) => {
+            let gaps: String = gaps.iter().map(|&g| line('L', g, 0, 0)).collect();
+            gaps + &line('U', 0, 0, 0)
+        }
+        Call::Read => line('V', 0, 0, 0),
+        Call::Set(part, i, v) => line('S', *part as u32, u32::from(*i), *v),
+        Call::Hand(_) => unreachable!("a script sets parts"),
+        Call::Fresh => line('N', 0, 0, 0),
+    }
+}
+
+/// The calls of a script.
+fn parse(script: &str) -> Vec<Call> {
+    let mut gaps = Vec::new();
+    let mut calls = Vec::new();
+    for l in script.lines() {
+        let field = |at: usize| u32::from_str_radix(&l[at..at + 8], 16).expect("8 digits");
+        let (a, b, c) = (field(4), field(13), field(22));
+        calls.push(match l.as_bytes()[0] {
+            b'M' => Call::Mark(a),
+            b'G' => Call::Gap(a),
+            b'W' => Call::Seed(a),
+            b'H' => Call::Hint(a),
+            b'F' => Call::Finish,
+            b'T' => Call::Take,
+            b'R' => Call::Reseed,
+            b'L' => {
+                gaps.push(a);
+                continue;
+            }
+            b'U' => Call::Resolve(std::mem::take(&mut gaps)),
+            b'V' => Call::Read,
+            b'S' => Call::Set(PARTS[a as usize], b as u8, c),
+            _ => Call::Fresh,
+        });
+    }
+    calls
+}
+
+fn number(v: f32) -> String {
+    format!(" {}", float(v))
+}
+
+fn count(n: usize) -> String {
+    format!(" {n:08X}")
+}
+
+fn flag(b: bool) -> String {
+    format!(" {}", u8::from(b))
+}
+
+fn held(has: bool, v: f32) -> String {
+    if has {
+        flag(true) + &number(v)
+    } else {
+        flag(false)
+    }
+}
+
+/// A tracker: its parts in order. Of a count above its capacity all places are shown.
+fn tracker(t: &Plain) -> String {
+    let p = &t.pair;
+    let mut s = number(p.lo) + &number(p.hi) + &count(p.init_len);
+    s.extend(p.init.iter().take(p.init_len).map(|&v| number(v)));
+    s += &[flag(p.ready), flag(p.confirmed), flag(p.placeholder_is_lo), count(p.lo_n)].concat();
+    s += &count(t.ring_len);
+    for e in t.ring.iter().take(t.ring_len) {
+        s += &[number(e.dur_ms), flag(e.assigned_dit), number(e.pre_lo), number(e.pre_hi)].concat();
+    }
+    s += &(held(t.has_wpm, t.wpm_ema) + &count(t.recent_len));
+    s.extend(t.recent.iter().take(t.recent_len).map(|&v| number(v)));
+    s += &(held(t.has_egap, t.mu_egap_ms) + &held(t.has_hint, t.ratio_hint));
+    s + &count(t.regime as usize) + &flag(t.badlock_recovered) + &flag(t.lo_uncorroborated)
+}
+
+/// The lines that answer a call; a gap that is put on the list has none.
+fn answer(both: &mut Both, call: &Call) -> String {
+    let a = both.step(call).expect("the library and the Rust agree");
+    let letter = lines(call).lines().last().expect("a line")[..1].to_string();
+    let told = match a.told {
+        Told::Nothing => format!(" {:02X} 0", a.code),
+        Told::Flag(yes) => format!(" {:02X} {}", a.code, u8::from(yes)),
+        Told::Readings(r) => {
+            let mut s = format!(" {:02X} {}", r.codes[0], u8::from(r.ready));
+            s += &format!(" {:02X} {:08X}", r.codes[1], r.regime);
+            for (code, x) in r.codes[2..].iter().zip(r.numbers) {
+                let value = f32::from_bits(x.unwrap_or(0));
+                s += &format!(" {code:02X}{}{}", flag(x.is_some()), number(value));
+            }
+            s
+        }
+    };
+    format!("{letter}{told}{}\n", tracker(&both.ours))
+}
+
+/// What a script must print.
+fn answers(calls: &[Call]) -> String {
+    let mut both = Both::new();
+    calls.iter().map(|c| answer(&mut both, c)).collect()
+}
+
+/// The list as it stands in the repository.
+pub fn script() -> Vec<Call> {
+    parse(STDIN)
+}
+
+pub fn files() -> Files {
+    let calls = choose();
+    Files {
+        stdin: calls.iter().map(lines).collect(),
+        stdout: answers(&calls),
+    }
+}
+
+/// The branches that a list reaches.
+fn reaches(calls: &Vec<Call>) -> BTreeSet<usize> {
+    let counts = || Tracker::reached().iter().map(|b| b.count());
+    let before: Vec<u64> = counts().collect();
+    Tracker::run(calls).expect("no difference");
+    let after = counts().zip(before).map(|(b, a)| b > a);
+    after.enumerate().filter(|x| x.1).map(|x| x.0).collect()
+}
+
+/// A tracker that is handed in, part for part, onto a fresh one.
+fn parts(t: &Plain) -> Vec<Call> {
+    let p = &t.pair;
+    let bits = |v: f32| if v.is_nan() { 0x7FC0_0000 } else { v.to_bits() };
+    let mut all = vec![Call::Fresh];
+    let mut put = |part, i: usize, v: u32| all.push(Call::Set(part, i as u8, v));
+    put(Part::Lo, 0, bits(p.lo));
+    put(Part::Hi, 0, bits(p.hi));
+    put(Part::InitLen, 0, p.init_len as u32);
+    put(Part::Ready, 0, u32::from(p.ready));
+    put(Part::Confirmed, 0, u32::from(p.confirmed));
+    put(Part::PlaceholderIsLo, 0, u32::from(p.placeholder_is_lo));
+    put(Part::LoN, 0, p.lo_n as u32);
+    put(Part::RingLen, 0, t.ring_len as u32);
+    for i in 0..12 {
+        put(Part::Init, i, bits(p.init[i]));
+        put(Part::RingDur, i, bits(t.ring[i].dur_ms));
+        put(Part::RingDit, i, u32::from(t.ring[i].assigned_dit));
+        put(Part::RingLo, i, bits(t.ring[i].pre_lo));
+        put(Part::RingHi, i, bits(t.ring[i].pre_hi));
+    }
+    put(Part::HasWpm, 0, u32::from(t.has_wpm));
+    put(Part::Wpm, 0, bits(t.wpm_ema));
+    put(Part::RecentLen, 0, t.recent_len as u32);
+    for i in 0..5 {
+        put(Part::Recent, i, bits(t.recent[i]));
+    }
+    put(Part::HasEgap, 0, u32::from(t.has_egap));
+    put(Part::Egap, 0, bits(t.mu_egap_ms));
+    put(Part::HasHint, 0, u32::from(t.has_hint));
+    put(Part::Hint, 0, bits(t.ratio_hint));
+    put(Part::Regime, 0, t.regime);
+    put(Part::Recovered, 0, u32::from(t.badlock_recovered));
+    put(Part::Uncorroborated, 0, u32::from(t.lo_uncorroborated));
+    all
+}
+
+/// Without trackers handed in whole.
+fn spelled(case: Vec<Call>) -> Vec<Call> {
+    let spell = |c| match c {
+        Call::Hand(t) => parts(&t.0),
+        c => vec![c],
+    };
+    let fresh = std::iter::once(Call::Fresh);
+    fresh.chain(case.into_iter().flat_map(spell)).collect()
+}
+
+/// Document 01's settled examples, and some keyed text.
+fn by_hand() -> Vec<Call> {
+    let examples: [&[f32]; 10] = [
+        &[60.0; 5],
+        &[50.0, 50.0, 150.0, 150.0, 50.0],
+        &[50.0, 100.0, 100.0, 100.0, 100.0],
+        &[150.0; 5],
+        &[300.0; 5],
+        &[1000.0; 5],
+        &[60.0, 60.0, 60.0, 60.0, 60.0, 120.0],
+        &[60.0, 60.0, 60.0, 60.0, 60.0, 150.0],
+        &[300.0, 300.0, 300.0, 300.0, 300.0, 50.0],
+        &[50.0, 50.0, 200.0, 200.0, 200.0, 100.0],
+    ];
+    let mut s = Vec::new();
+    for marks in examples {
+        s.push(Call::Fresh);
+        s.extend(marks.iter().map(|m| Call::Mark(m.to_bits())));
+        s.push(Call::Read);
+    }
+    s.push(Call::Fresh);
+    let mut random = Random::new(3);
+    for i in 0..48 {
+        let dit = if i < 24 { 57.0 } else { 96.0 };
+        let units = if random.below(2) == 0 { 1.0 } else { 3.1 };
+        let jitter = 0.9 + 0.2 * random.fraction() as f32;
+        s.push(Call::Mark((dit * units * jitter).to_bits()));
+        s.push(Call::Gap((dit * jitter).to_bits()));
+    }
+    s.push(Call::Read);
+    s
+}
+
+/// A list that reaches every branch: by hand, and then for each branch that is left a random list, made as short as it can be.
+fn choose() -> Vec<Call> {
+    let mut calls = by_hand();
+    let mut done = reaches(&calls);
+    let mut seed = 0;
+    while done.len() < Tracker::reached().len() {
+        seed += 1;
+        assert!(seed < 1_000_000, "a branch was not reached");
+        let case = spelled(random_case(&mut Random::new(seed)));
+        let new: BTreeSet<usize> = reaches(&case).difference(&done).copied().collect();
+        if new.is_empty() {
+            continue;
+        }
+        let least = shrink(case, |c| smaller_list(c, |_| Vec::new()), |c| reaches(c).is_superset(&new));
+        done.extend(reaches(&least));
+        calls.push(Call::Fresh);
+        calls.extend(least);
+    }
+    calls
+}
+
+#[cfg(test)]
+mod tests {
+    use super::*;
+
+    /// What stands in the repository is what the Rust answers to the list there.
+    #[test]
+    fn answers_are_as_written() {
+        let calls = script();
+        assert!(answers(&calls) == include_str!("../../../crates/tracker_replay/stdout"));
+        assert!(calls.iter().map(lines).collect::<String>() == STDIN);
+    }
+
+    /// The list alone reaches every branch.
+    #[test]
+    fn every_branch() {
+        let reached = reaches(&script());
+        for (i, b) in Tracker::reached().iter().enumerate() {
+            assert!(reached.contains(&i), "not reached: {}", b.name);
+        }
+    }
+}
