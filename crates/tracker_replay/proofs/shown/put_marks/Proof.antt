@@ -1,0 +1,46 @@
+-- `tracker_replay::shown::put_marks` is safe and ends: the measure is the number of places that are left. Assumes nothing.
+use Prim.Native.Nat.{_-_}
+use native.Mathlib.Omega.{arith}
+use Rattle.tracker_replay.proofs.shown.put_marks.Statement.{statement}
+use Rattle.tracker_replay.proofs.shown.put_marks.Tie as tie
+
+abbrev Inv-loop : tie.InvT-loop
+Inv-loop marks n i₀ i = Unit {0}
+
+abbrev μ-loop : tie.MeasureT-loop
+μ-loop marks n i₀ i = 12 - i
+
+put-count-requires : tie.Need-put-count-requires Inv-loop μ-loop
+put-count-requires c κs = tt
+
+loop-holds : tie.Need-loop-holds Inv-loop μ-loop
+loop-holds c = tt
+
+put-mark-requires : tie.Need-put-mark-requires Inv-loop μ-loop
+put-mark-requires c κs = tt
+
+add-i : tie.Need-add-i Inv-loop μ-loop
+add-i c = omega arith
+
+loop-less : tie.Need-loop-less Inv-loop μ-loop
+loop-less c = omega arith
+
+loop-again : tie.Need-loop-again Inv-loop μ-loop
+loop-again c = tt
+
+returns : tie.Need-returns Inv-loop μ-loop
+returns c = tt
+
+pub put-marks-spec : {M : Type 1} → statement M
+put-marks-spec =
+    tie.close
+    (tie.spec
+    Inv-loop
+    μ-loop
+    put-count-requires
+    loop-holds
+    put-mark-requires
+    add-i
+    loop-less
+    loop-again
+    returns)
