@@ -107,6 +107,11 @@ fn command(words: &[String]) -> Result<bool, String> {
             bench::tracker();
             Ok(true)
         }
+        #[cfg(not(manta))]
+        ("bench", Some((name, []))) if name == "tracker" => {
+            println!("{NO_MANTA}");
+            Ok(false)
+        }
         ("replay", Some((name, [folder]))) => replay(name, folder),
         _ => Err("the command is not known".into()),
     }
