@@ -193,3 +193,68 @@ pub fn numbers() {
     table("Calls that do not wait for each other:", Form::Apart);
     table("Each call waits for the one before it:", Form::InTurn);
 }
+
+/// Keyed text at 20 words a minute: letters of one to four marks, a tenth of jitter.
+#[cfg(manta)]
+fn text() -> Vec<f32> {
+    let mut random = Random::new(6);
+    let mark = |random: &mut Random| {
+        let units = if random.below(2) == 0 { 1.0 } else { 3.0 };
+        let jitter = 0.9 + 0.2 * random.fraction() as f32;
+        60.0 * units * jitter
+    };
+    (0..INPUTS).map(|_| mark(&mut random)).collect()
+}
+
+/// A table in markdown: one mark to a tracker, in the Rust, by the inner function and by the public one with its tests.
+#[cfg(manta)]
+pub fn tracker() {
+    use crate::hullathan::tracker as ours;
+    use crate::manta::timing::SpeedTracker;
+    let marks = text();
+    let rust = || {
+        let mut t = SpeedTracker::new();
+        for &m in &marks {
+            t.on_mark(black_box(m));
+        }
+        black_box(&t);
+    };
+    let inner = || {
+        let mut t = ours::new();
+        for &m in &marks {
+            // Safety: the tracker is what the library handed back, and each mark lies from 54 to 198
+            t = unsafe { ours::inner_on_mark(t, black_box(m)) };
+        }
+        black_box(&t);
+    };
+    let public = || {
+        let mut t = ours::new();
+        for &m in &marks {
+            t = ours::on_mark(t, black_box(m)).tracker;
+        }
+        black_box(&t);
+    };
+    let passed = || {
+        let mut t = ours::new();
+        for &m in &marks {
+            t = ours::same(t, black_box(m));
+        }
+        black_box(&t);
+    };
+    let times = medians(vec![
+        Box::new(rust),
+        Box::new(inner),
+        Box::new(public),
+        Box::new(passed),
+    ]);
+    println!("| one mark | ns | over the Rust |\n|---|---|---|");
+    let names = [
+        "manta's `on_mark`",
+        "the inner `on_mark`",
+        "the public `on_mark`",
+        "a tracker passed to C and back",
+    ];
+    for (name, t) in names.iter().zip(&times) {
+        println!("| {name} | {t:.1} | {:.2} |", t / times[0]);
+    }
+}

@@ -133,7 +133,12 @@ pub mod sender {
 
         extern "C" {
             pub fn hullathan_sender_new() -> SenderTiming;
-            pub fn hullathan_sender_observe(t: SenderTiming, class: u8, dur_ms: f32, dit_ms: f32) -> Observed;
+            pub fn hullathan_sender_observe(
+                t: SenderTiming,
+                class: u8,
+                dur_ms: f32,
+                dit_ms: f32,
+            ) -> Observed;
             pub fn hullathan_sender_mean_dits(t: SenderTiming, class: u8) -> Number;
             pub fn hullathan_sender_dash_dot_ratio(t: SenderTiming) -> Number;
             pub fn hullathan_sender_word_dits(t: SenderTiming) -> Number;
@@ -181,9 +186,15 @@ pub mod sender {
         #[test]
         fn layout() {
             assert_eq!(size_of::<ClassStats>(), 12);
-            assert_eq!((offset_of!(ClassStats, var), offset_of!(ClassStats, n)), (4, 8));
+            assert_eq!(
+                (offset_of!(ClassStats, var), offset_of!(ClassStats, n)),
+                (4, 8)
+            );
             assert_eq!(size_of::<SenderTiming>(), 60);
-            assert_eq!((size_of::<Observed>(), offset_of!(Observed, timing)), (64, 4));
+            assert_eq!(
+                (size_of::<Observed>(), offset_of!(Observed, timing)),
+                (64, 4)
+            );
             assert_eq!((size_of::<Number>(), offset_of!(Number, value)), (8, 4));
             assert_eq!((size_of::<Flag>(), offset_of!(Flag, yes)), (2, 1));
             assert_eq!((size_of::<Report>(), offset_of!(Report, classes)), (68, 8));
@@ -316,8 +327,13 @@ pub mod tracker {
             pub fn hullathan_tracker_seed_wpm(t: SpeedTracker, wpm: f32) -> Told;
             pub fn hullathan_tracker_on_mark(t: SpeedTracker, dur_ms: f32) -> Told;
             pub fn hullathan_tracker_reseed_wpm_after_warmup(t: SpeedTracker) -> Told;
-            pub fn hullathan_tracker_resolve_unimodal_bootstrap(t: SpeedTracker, gaps_ms: *const f32, count: usize) -> Flagged;
+            pub fn hullathan_tracker_resolve_unimodal_bootstrap(
+                t: SpeedTracker,
+                gaps_ms: *const f32,
+                count: usize,
+            ) -> Flagged;
             pub fn hullathan_inner_tracker_on_mark(t: SpeedTracker, dur_ms: f32) -> SpeedTracker;
+            pub fn hullathan_inner_tracker_same(t: SpeedTracker, dur_ms: f32) -> SpeedTracker;
         }
     }
 
@@ -388,7 +404,14 @@ pub mod tracker {
     }
 
     pub fn resolve_unimodal_bootstrap(t: SpeedTracker, gaps_ms: &[f32]) -> Flagged {
-        unsafe { c::hullathan_tracker_resolve_unimodal_bootstrap(t, gaps_ms.as_ptr(), gaps_ms.len()) }
+        unsafe {
+            c::hullathan_tracker_resolve_unimodal_bootstrap(t, gaps_ms.as_ptr(), gaps_ms.len())
+        }
+    }
+
+    /// The tracker as it was handed in.
+    pub fn same(t: SpeedTracker, dur_ms: f32) -> SpeedTracker {
+        unsafe { c::hullathan_inner_tracker_same(t, dur_ms) }
     }
 
     /// One mark, with no test of the tracker or the mark.
@@ -408,16 +431,31 @@ pub mod tracker {
         /// The structs lie as C lays them: the library reads and writes them so.
         #[test]
         fn layout() {
-            assert_eq!((size_of::<RingEntry>(), offset_of!(RingEntry, pre_hi)), (16, 12));
-            assert_eq!((size_of::<ClusterPair>(), offset_of!(ClusterPair, lo_n)), (80, 72));
+            assert_eq!(
+                (size_of::<RingEntry>(), offset_of!(RingEntry, pre_hi)),
+                (16, 12)
+            );
+            assert_eq!(
+                (size_of::<ClusterPair>(), offset_of!(ClusterPair, lo_n)),
+                (80, 72)
+            );
             assert_eq!(offset_of!(ClusterPair, init_len), 56);
-            assert_eq!((size_of::<SpeedTracker>(), offset_of!(SpeedTracker, ring_len)), (344, 272));
+            assert_eq!(
+                (
+                    size_of::<SpeedTracker>(),
+                    offset_of!(SpeedTracker, ring_len)
+                ),
+                (344, 272)
+            );
             assert_eq!(offset_of!(SpeedTracker, wpm_ema), 284);
             assert_eq!(offset_of!(SpeedTracker, recent_len), 312);
             assert_eq!(offset_of!(SpeedTracker, ratio_hint), 332);
             assert_eq!(offset_of!(SpeedTracker, lo_uncorroborated), 341);
             assert_eq!((size_of::<Told>(), offset_of!(Told, tracker)), (352, 8));
-            assert_eq!((size_of::<Flagged>(), offset_of!(Flagged, tracker)), (352, 8));
+            assert_eq!(
+                (size_of::<Flagged>(), offset_of!(Flagged, tracker)),
+                (352, 8)
+            );
         }
 
         /// Document 01's settled examples, through the library.
@@ -435,8 +473,14 @@ pub mod tracker {
             assert_eq!(after(&[50.0, 50.0, 150.0, 150.0, 50.0]), (50.0, 150.0));
             assert_eq!(after(&[50.0, 100.0, 100.0, 100.0, 100.0]), (50.0, 150.0));
             assert_eq!(after(&[1000.0; 5]), (150.0, 450.0));
-            assert_eq!(after(&[300.0, 300.0, 300.0, 300.0, 300.0, 50.0]), (50.0, 300.0));
-            assert_eq!(after(&[50.0, 50.0, 200.0, 200.0, 200.0, 100.0]), (50.0, 185.0));
+            assert_eq!(
+                after(&[300.0, 300.0, 300.0, 300.0, 300.0, 50.0]),
+                (50.0, 300.0)
+            );
+            assert_eq!(
+                after(&[50.0, 50.0, 200.0, 200.0, 200.0, 100.0]),
+                (50.0, 185.0)
+            );
         }
     }
 }

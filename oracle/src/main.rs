@@ -12,7 +12,8 @@ oracle compare LAYER [--seed S] [--seconds T | --count N]
                                    the same cases to both sides, up to the first difference (10 seconds from seed 1)
 oracle exhaustive [--threads N]    the f32 root and the logarithm over all 2^32 patterns (2 threads; minutes)
 oracle bench numbers               nanoseconds for each call, beside Rust's own
-oracle replay sender DIR           the list of calls for `sender_replay`, and what it must print: DIR/stdin and DIR/stdout
+oracle bench tracker               nanoseconds for one mark, beside manta's
+oracle replay LAYER DIR            the list of calls for `sender_replay` or `tracker_replay`: DIR/stdin, and DIR/stdout, what it must print
 ";
 
 /// What a command that needs manta's Rust says without it.
@@ -100,6 +101,16 @@ fn command(words: &[String]) -> Result<bool, String> {
         ("bench", Some((name, []))) if name == "numbers" => {
             bench::numbers();
             Ok(true)
+        }
+        #[cfg(manta)]
+        ("bench", Some((name, []))) if name == "tracker" => {
+            bench::tracker();
+            Ok(true)
+        }
+        #[cfg(not(manta))]
+        ("bench", Some((name, []))) if name == "tracker" => {
+            println!("{NO_MANTA}");
+            Ok(false)
         }
         ("replay", Some((name, [folder]))) => replay(name, folder),
         _ => Err("the command is not known".into()),

@@ -73,14 +73,22 @@ pub fn tracker(t: &SpeedTracker) -> Result<(), u8> {
     if p.init_len > 12 || t.recent_len > 5 || t.ring_len > 12 {
         return Err(1);
     }
-    let (init, recent, ring) = (&p.init[..p.init_len], &t.recent[..t.recent_len], &t.ring[..t.ring_len]);
+    let (init, recent, ring) = (
+        &p.init[..p.init_len],
+        &t.recent[..t.recent_len],
+        &t.ring[..t.ring_len],
+    );
     let settled = if p.ready {
         centroids(p.lo, p.hi)
     } else {
         p.lo.to_bits() == 0 && p.hi.to_bits() == 0 && init.len() <= 4
     };
     // "a held duration that 5 to 7 would refuse"
-    let held = init.iter().chain(recent).copied().chain(ring.iter().map(|e| e.dur_ms));
+    let held = init
+        .iter()
+        .chain(recent)
+        .copied()
+        .chain(ring.iter().map(|e| e.dur_ms));
     let sound = settled
         && held.into_iter().all(|d| duration(d).is_ok())
         && ring.iter().all(|e| centroids(e.pre_lo, e.pre_hi))

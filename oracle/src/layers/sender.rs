@@ -73,13 +73,28 @@ pub mod reached {
 /// A call, its numbers by their bits; or a class of the statistics set, on both sides, before the next call.
 #[derive(Clone, Copy, PartialEq)]
 pub enum Call {
-    Observe { class: u8, dur: u32, dit: u32 },
-    Mean { class: u8 },
+    Observe {
+        class: u8,
+        dur: u32,
+        dit: u32,
+    },
+    Mean {
+        class: u8,
+    },
     Ratio,
     Word,
-    Pause { dits: u32 },
-    Estimates { dit: u32 },
-    Set { class: u8, mean: u32, var: u32, n: u32 },
+    Pause {
+        dits: u32,
+    },
+    Estimates {
+        dit: u32,
+    },
+    Set {
+        class: u8,
+        mean: u32,
+        var: u32,
+        n: u32,
+    },
     Fresh,
 }
 
@@ -91,14 +106,24 @@ impl fmt::Debug for Call {
     fn fmt(&self, f: &mut fmt::Formatter<'_>) -> fmt::Result {
         match *self {
             Call::Observe { class, dur, dit } => {
-                write!(f, "observe class {class}, {} against {}", show(dur), show(dit))
+                write!(
+                    f,
+                    "observe class {class}, {} against {}",
+                    show(dur),
+                    show(dit)
+                )
             }
             Call::Mean { class } => write!(f, "mean_dits of class {class}"),
             Call::Ratio => write!(f, "dash_dot_ratio"),
             Call::Word => write!(f, "sender_word_dits"),
             Call::Pause { dits } => write!(f, "is_pause of {}", show(dits)),
             Call::Estimates { dit } => write!(f, "estimates with {}", show(dit)),
-            Call::Set { class, mean, var, n } => {
+            Call::Set {
+                class,
+                mean,
+                var,
+                n,
+            } => {
                 write!(f, "class {class} set to {} {} {n}", show(mean), show(var))
             }
             Call::Fresh => write!(f, "new"),
@@ -261,7 +286,12 @@ impl Rust {
                 let stats = [e.dot, e.dash, e.element_gap, e.char_gap, e.word_gap].map(class);
                 Told::Report(e.dit_ms, Plain { stats })
             }
-            Call::Set { class, mean, var, n } => {
+            Call::Set {
+                class,
+                mean,
+                var,
+                n,
+            } => {
                 let s = &mut t.stats[usize::from(class) % 5];
                 (s.mean, s.var, s.n) = (float(mean), float(var), n);
                 Told::Nothing
@@ -295,7 +325,12 @@ fn library(t: Plain, call: Call) -> (Answer, Plain) {
             let r = ours::estimates(t, float(dit));
             (code, told) = (r.code, Told::Report(r.dit_ms, r.classes));
         }
-        Call::Set { class, mean, var, n } => {
+        Call::Set {
+            class,
+            mean,
+            var,
+            n,
+        } => {
             next.stats[usize::from(class) % 5] = ClassStats {
                 mean: float(mean),
                 var: float(var),
@@ -327,7 +362,11 @@ fn step(t: &mut Plain, rust: &mut Rust, call: Call) -> Result<(), Difference> {
         });
     }
     if !same_timing(&next, &plain(&rust.0)) {
-        states::compare(&format!("{call:?}"), &State::from(&manta(&next)), &State::from(&rust.0))?;
+        states::compare(
+            &format!("{call:?}"),
+            &State::from(&manta(&next)),
+            &State::from(&rust.0),
+        )?;
     }
     *t = next;
     Ok(())
@@ -364,7 +403,10 @@ fn count(t: &SenderTiming, call: Call) {
     match call {
         Call::Observe { class, dur, dit } => {
             let (dur, dit) = (float(dur), float(dit));
-            let bad = (refusals::duration(dur).is_err(), refusals::dit(dit).is_err());
+            let bad = (
+                refusals::duration(dur).is_err(),
+                refusals::dit(dit).is_err(),
+            );
             NO_CLASS.when(class > 4);
             if class > 4 {
                 return;
@@ -427,7 +469,11 @@ fn count(t: &SenderTiming, call: Call) {
         Call::Pause { dits } if sound => {
             let dits = float(dits);
             let yes = t.is_pause(dits);
-            let gap = if t.stats[3].n > 0 { t.stats[3].mean } else { 0.0 };
+            let gap = if t.stats[3].n > 0 {
+                t.stats[3].mean
+            } else {
+                0.0
+            };
             let limit = f32::max(15.0, 4.0 * gap);
             PAUSE_NAN.when(dits.is_nan());
             PAUSE_YES.when(yes && dits > limit);
@@ -462,7 +508,17 @@ fn about(random: &mut Random, limits: &[f32]) -> u32 {
 }
 
 fn odd(random: &mut Random) -> u32 {
-    random.pick(&[NAN, INFINITY, INFINITY | MINUS, 0, MINUS, 1, MINUS | 1, 0x7F7F_FFFF, 0xBF80_0000])
+    random.pick(&[
+        NAN,
+        INFINITY,
+        INFINITY | MINUS,
+        0,
+        MINUS,
+        1,
+        MINUS | 1,
+        0x7F7F_FFFF,
+        0xBF80_0000,
+    ])
 }
 
 /// A duration: mostly that of its class against the dit, or near a limit, or odd.
@@ -487,9 +543,15 @@ fn observe(random: &mut Random, speed: f32) -> Call {
         2 => (random.scale(20.0, 150.0) as f32).to_bits(),
         _ => speed.to_bits(),
     };
-    let scale = Some(f32::from_bits(dit)).filter(|d| d.is_finite()).unwrap_or(60.0);
+    let scale = Some(f32::from_bits(dit))
+        .filter(|d| d.is_finite())
+        .unwrap_or(60.0);
     let dur = duration(random, class, scale);
-    let class = if random.below(64) == 0 { 5 + random.below(251) as u8 } else { class };
+    let class = if random.below(64) == 0 {
+        5 + random.below(251) as u8
+    } else {
+        class
+    };
     Call::Observe { class, dur, dit }
 }
 
@@ -509,7 +571,12 @@ fn set(random: &mut Random) -> Call {
         2 => MINUS,
         _ => (random.scale(1e-6, 100.0) as f32).to_bits(),
     };
-    Call::Set { class: random.below(5) as u8, mean, var, n }
+    Call::Set {
+        class: random.below(5) as u8,
+        mean,
+        var,
+        n,
+    }
 }
 
 /// A gap in dits: at the limit of a pause, or odd, or any.
@@ -543,9 +610,15 @@ impl Layer for Sender {
             let call = match random.below(32) {
                 0 => Call::Ratio,
                 1 => Call::Word,
-                2 | 3 => Call::Pause { dits: pause(random, gap) },
-                4 => Call::Estimates { dit: random.pick(&[speed.to_bits(), NAN, 0]) },
-                5 | 6 => Call::Mean { class: random.below(6) as u8 },
+                2 | 3 => Call::Pause {
+                    dits: pause(random, gap),
+                },
+                4 => Call::Estimates {
+                    dit: random.pick(&[speed.to_bits(), NAN, 0]),
+                },
+                5 | 6 => Call::Mean {
+                    class: random.below(6) as u8,
+                },
                 7 if random.below(8) == 0 => Call::Fresh,
                 k if k >= 32 - sets => set(random),
                 _ => observe(random, speed),
@@ -554,9 +627,24 @@ impl Layer for Sender {
             calls.push(call);
             // what is unsound stays so: one call is made of it, and the class is set anew
             if let (Call::Set { class, .. }, true) = (call, unsound(&rust.0).is_err()) {
-                let seen = random.pick(&[Call::Ratio, Call::Word, Call::Mean { class: 1 }, Call::Pause { dits: 0 }, Call::Estimates { dit: 0 }]);
-                let seen = if random.below(3) == 0 { seen } else { observe(random, speed) };
-                let mend = Call::Set { class, mean: 1f32.to_bits(), var: 0, n: random.pick(&[0, 1, 2, 3, 9]) };
+                let seen = random.pick(&[
+                    Call::Ratio,
+                    Call::Word,
+                    Call::Mean { class: 1 },
+                    Call::Pause { dits: 0 },
+                    Call::Estimates { dit: 0 },
+                ]);
+                let seen = if random.below(3) == 0 {
+                    seen
+                } else {
+                    observe(random, speed)
+                };
+                let mend = Call::Set {
+                    class,
+                    mean: 1f32.to_bits(),
+                    var: 0,
+                    n: random.pick(&[0, 1, 2, 3, 9]),
+                };
                 for c in [seen, mend] {
                     rust.call(c);
                     calls.push(c);
@@ -589,16 +677,46 @@ impl Layer for Sender {
 fn simpler(call: &Call) -> Vec<Call> {
     match *call {
         Call::Observe { class, dur, dit } => {
-            let durs = simpler_f32(dur).into_iter().map(|dur| Call::Observe { class, dur, dit });
-            let dits = simpler_f32(dit).into_iter().map(|dit| Call::Observe { class, dur, dit });
+            let durs = simpler_f32(dur)
+                .into_iter()
+                .map(|dur| Call::Observe { class, dur, dit });
+            let dits = simpler_f32(dit)
+                .into_iter()
+                .map(|dit| Call::Observe { class, dur, dit });
             durs.chain(dits).collect()
         }
-        Call::Pause { dits } => simpler_f32(dits).into_iter().map(|dits| Call::Pause { dits }).collect(),
-        Call::Estimates { dit } => simpler_f32(dit).into_iter().map(|dit| Call::Estimates { dit }).collect(),
-        Call::Set { class, mean, var, n } => {
-            let means = simpler_f32(mean).into_iter().map(|mean| Call::Set { class, mean, var, n });
-            let vars = simpler_f32(var).into_iter().map(|var| Call::Set { class, mean, var, n });
-            let ns = simpler_count(u64::from(n)).into_iter().map(|n| Call::Set { class, mean, var, n: n as u32 });
+        Call::Pause { dits } => simpler_f32(dits)
+            .into_iter()
+            .map(|dits| Call::Pause { dits })
+            .collect(),
+        Call::Estimates { dit } => simpler_f32(dit)
+            .into_iter()
+            .map(|dit| Call::Estimates { dit })
+            .collect(),
+        Call::Set {
+            class,
+            mean,
+            var,
+            n,
+        } => {
+            let means = simpler_f32(mean).into_iter().map(|mean| Call::Set {
+                class,
+                mean,
+                var,
+                n,
+            });
+            let vars = simpler_f32(var).into_iter().map(|var| Call::Set {
+                class,
+                mean,
+                var,
+                n,
+            });
+            let ns = simpler_count(u64::from(n)).into_iter().map(|n| Call::Set {
+                class,
+                mean,
+                var,
+                n: n as u32,
+            });
             means.chain(vars).chain(ns).collect()
         }
         _ => Vec::new(),

@@ -18,7 +18,12 @@ fn line(call: Call) -> String {
         Call::Word => ('W', 0, 0, 0, 0),
         Call::Pause { dits } => ('P', 0, dits, 0, 0),
         Call::Estimates { dit } => ('E', 0, dit, 0, 0),
-        Call::Set { class, mean, var, n } => ('S', class, mean, var, n),
+        Call::Set {
+            class,
+            mean,
+            var,
+            n,
+        } => ('S', class, mean, var, n),
         Call::Fresh => ('N', 0, 0, 0, 0),
     };
     format!("{letter} {class} {a:08X} {b:08X} {c:08X}\n")
@@ -40,7 +45,11 @@ fn answer(rust: &mut Rust, call: Call) -> String {
         Told::Report(dit, t) => (0, dit, classes(&t)),
     };
     let state = classes(&plain(&rust.0));
-    format!("{letter} {:02X} {has} {}{report}{state}\n", a.code, float(value))
+    format!(
+        "{letter} {:02X} {has} {}{report}{state}\n",
+        a.code,
+        float(value)
+    )
 }
 
 pub fn files() -> Files {
@@ -116,16 +125,48 @@ pub fn script() -> Vec<Call> {
         }
     }
     s.extend(readings());
-    s.extend([pause(NAN), pause(last(15.0)), pause(1000.0), pause(-1.0), estimates(NAN), estimates(-0.0)]);
+    s.extend([
+        pause(NAN),
+        pause(last(15.0)),
+        pause(1000.0),
+        pause(-1.0),
+        estimates(NAN),
+        estimates(-0.0),
+    ]);
     // refusals of what is observed, and the order among them
-    for dur in [NAN, INFINITE, -INFINITE, 0.0, -0.0, -60.0, last(1.0 / 64.0), 1.0 / 64.0, 262_144.0, next(262_144.0), f32::MAX] {
+    for dur in [
+        NAN,
+        INFINITE,
+        -INFINITE,
+        0.0,
+        -0.0,
+        -60.0,
+        last(1.0 / 64.0),
+        1.0 / 64.0,
+        262_144.0,
+        next(262_144.0),
+        f32::MAX,
+    ] {
         s.extend([observe(2, dur, 60.0), observe(2, dur, 19.0)]);
     }
-    for dit in [NAN, INFINITE, -20.0, 0.0, last(20.0), 20.0, 150.0, next(150.0)] {
+    for dit in [
+        NAN,
+        INFINITE,
+        -20.0,
+        0.0,
+        last(20.0),
+        20.0,
+        150.0,
+        next(150.0),
+    ] {
         s.push(observe(3, 180.0, dit));
     }
     for class in [5, 9] {
-        s.extend([observe(class, 60.0, 60.0), observe(class, NAN, NAN), Call::Mean { class }]);
+        s.extend([
+            observe(class, 60.0, 60.0),
+            observe(class, NAN, NAN),
+            Call::Mean { class },
+        ]);
     }
     // unsound statistics, and what is just sound
     for (mean, var) in [
@@ -155,16 +196,44 @@ pub fn script() -> Vec<Call> {
     }
     // numbers of a class that was never observed are no part of it
     s.extend([Call::Fresh, set(3, NAN, NAN, 0), set(4, 0.0, INFINITE, 0)]);
-    s.extend([Call::Word, pause(15.0), estimates(1.0), observe(4, 60.0, 60.0), observe(3, 60.0, 60.0), Call::Word]);
+    s.extend([
+        Call::Word,
+        pause(15.0),
+        estimates(1.0),
+        observe(4, 60.0, 60.0),
+        observe(3, 60.0, 60.0),
+        Call::Word,
+    ]);
     // counts at their largest, and the ratio from three on
     s.push(Call::Fresh);
-    s.extend([set(0, 1.0, 0.5, 2), set(1, 3.0, 0.5, 3), Call::Ratio, observe(0, 61.0, 60.0), Call::Ratio]);
+    s.extend([
+        set(0, 1.0, 0.5, 2),
+        set(1, 3.0, 0.5, 3),
+        Call::Ratio,
+        observe(0, 61.0, 60.0),
+        Call::Ratio,
+    ]);
     s.extend([set(1, 3.0, 0.5, 2), Call::Ratio]);
-    s.extend([set(0, 1.0, 0.5, u32::MAX - 1), observe(0, 61.0, 60.0), observe(0, 62.0, 60.0), Call::Ratio]);
+    s.extend([
+        set(0, 1.0, 0.5, u32::MAX - 1),
+        observe(0, 61.0, 60.0),
+        observe(0, 62.0, 60.0),
+        Call::Ratio,
+    ]);
     // the boundary below, within and above its limits, and a pause by the char gap
     for (gap, word) in [(0.5, 0.9), (2.5, 7.0), (40.0, 90.0)] {
-        s.extend([Call::Fresh, set(3, gap, 0.1, 1), Call::Word, set(4, word, 0.1, 1), Call::Word]);
-        s.extend([pause(last(4.0 * gap)), pause(4.0 * gap), pause(next(4.0 * gap))]);
+        s.extend([
+            Call::Fresh,
+            set(3, gap, 0.1, 1),
+            Call::Word,
+            set(4, word, 0.1, 1),
+            Call::Word,
+        ]);
+        s.extend([
+            pause(last(4.0 * gap)),
+            pause(4.0 * gap),
+            pause(next(4.0 * gap)),
+        ]);
     }
     s
 }

@@ -94,10 +94,22 @@ fn tracker(t: &Plain) -> String {
     let p = &t.pair;
     let mut s = number(p.lo) + &number(p.hi) + &count(p.init_len);
     s.extend(p.init.iter().take(p.init_len).map(|&v| number(v)));
-    s += &[flag(p.ready), flag(p.confirmed), flag(p.placeholder_is_lo), count(p.lo_n)].concat();
+    s += &[
+        flag(p.ready),
+        flag(p.confirmed),
+        flag(p.placeholder_is_lo),
+        count(p.lo_n),
+    ]
+    .concat();
     s += &count(t.ring_len);
     for e in t.ring.iter().take(t.ring_len) {
-        s += &[number(e.dur_ms), flag(e.assigned_dit), number(e.pre_lo), number(e.pre_hi)].concat();
+        s += &[
+            number(e.dur_ms),
+            flag(e.assigned_dit),
+            number(e.pre_lo),
+            number(e.pre_hi),
+        ]
+        .concat();
     }
     s += &(held(t.has_wpm, t.wpm_ema) + &count(t.recent_len));
     s.extend(t.recent.iter().take(t.recent_len).map(|&v| number(v)));
@@ -246,7 +258,11 @@ fn choose() -> Vec<Call> {
         if new.is_empty() {
             continue;
         }
-        let least = shrink(case, |c| smaller_list(c, |_| Vec::new()), |c| reaches(c).is_superset(&new));
+        let least = shrink(
+            case,
+            |c| smaller_list(c, |_| Vec::new()),
+            |c| reaches(c).is_superset(&new),
+        );
         done.extend(reaches(&least));
         calls.push(Call::Fresh);
         calls.extend(least);

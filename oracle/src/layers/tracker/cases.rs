@@ -10,7 +10,17 @@ use crate::refusals;
 const NAN: u32 = 0x7FC0_0000;
 const INFINITY: u32 = 0x7F80_0000;
 const MINUS: u32 = 1 << 31;
-const ODD: [u32; 9] = [NAN, INFINITY, INFINITY | MINUS, 0, MINUS, 1, MINUS | 1, 0x7F7F_FFFF, 0xC280_0000];
+const ODD: [u32; 9] = [
+    NAN,
+    INFINITY,
+    INFINITY | MINUS,
+    0,
+    MINUS,
+    1,
+    MINUS | 1,
+    0x7F7F_FFFF,
+    0xC280_0000,
+];
 
 /// A number at one of the limits, or next to it.
 fn about(random: &mut Random, limits: &[f32]) -> u32 {
@@ -57,8 +67,12 @@ impl Session<'_> {
     fn push(&mut self, call: Call) {
         let t = &mut self.rust;
         match &call {
-            Call::Mark(d) if refusals::duration(f32::from_bits(*d)).is_ok() => t.on_mark(f32::from_bits(*d)),
-            Call::Gap(d) if refusals::duration(f32::from_bits(*d)).is_ok() => t.on_element_gap(f32::from_bits(*d)),
+            Call::Mark(d) if refusals::duration(f32::from_bits(*d)).is_ok() => {
+                t.on_mark(f32::from_bits(*d))
+            }
+            Call::Gap(d) if refusals::duration(f32::from_bits(*d)).is_ok() => {
+                t.on_element_gap(f32::from_bits(*d))
+            }
             Call::Seed(w) => t.seed_wpm(f32::from_bits(*w)),
             Call::Hint(h) => t.set_ratio_hint(Some(f32::from_bits(*h))),
             Call::Finish => {
@@ -155,7 +169,11 @@ impl Session<'_> {
             if self.random.below(40) == 0 {
                 self.change();
             }
-            let d = if self.random.below(30) == 0 { self.special() } else { self.mark() };
+            let d = if self.random.below(30) == 0 {
+                self.special()
+            } else {
+                self.mark()
+            };
             self.push(Call::Mark(d));
             if self.gap > 0.0 && self.random.below(3) > 0 {
                 let off = 1.0 + self.jitter * (2.0 * self.random.fraction() as f32 - 1.0);
@@ -249,10 +267,16 @@ fn centroids(random: &mut Random) -> (f32, f32) {
     match random.below(6) {
         0 => (20.0, 16.0),
         1 => (150.0, 2_500.0),
-        2 => (random.scale(20.0, 150.0) as f32, random.scale(16.0, 2_500.0) as f32),
+        2 => (
+            random.scale(20.0, 150.0) as f32,
+            random.scale(16.0, 2_500.0) as f32,
+        ),
         _ => {
             let lo = random.scale(20.0, 150.0) as f32;
-            (lo, (lo * random.scale(2.2, 6.0) as f32).clamp(16.0, 2_500.0))
+            (
+                lo,
+                (lo * random.scale(2.2, 6.0) as f32).clamp(16.0, 2_500.0),
+            )
         }
     }
 }
@@ -279,7 +303,11 @@ fn sound(random: &mut Random) -> Plain {
     t.recent_len = random.below(6) as usize;
     let junk = f32::from_bits(random.pick(&ODD));
     for i in 0..12 {
-        t.pair.init[i] = if i < t.pair.init_len { good(random) } else { junk };
+        t.pair.init[i] = if i < t.pair.init_len {
+            good(random)
+        } else {
+            junk
+        };
         t.ring[i] = RingEntry {
             dur_ms: junk,
             assigned_dit: flag(8),
@@ -299,8 +327,16 @@ fn sound(random: &mut Random) -> Plain {
     t.pair.placeholder_is_lo = flag(1);
     t.pair.lo_n = random.pick(&[0, 1, 2, 12, u32::MAX as usize]);
     (t.has_wpm, t.has_egap, t.has_hint) = (flag(2), flag(3), flag(4));
-    t.wpm_ema = if t.has_wpm { positive(random, 8.0, 60.0) } else { junk };
-    t.mu_egap_ms = if t.has_egap { positive(random, 5.0, 400.0) } else { junk };
+    t.wpm_ema = if t.has_wpm {
+        positive(random, 8.0, 60.0)
+    } else {
+        junk
+    };
+    t.mu_egap_ms = if t.has_egap {
+        positive(random, 5.0, 400.0)
+    } else {
+        junk
+    };
     t.ratio_hint = match (t.has_hint, random.below(3)) {
         (false, _) => junk,
         (true, 0) => random.pick(&[2.2, 6.0]),
@@ -314,7 +350,10 @@ fn sound(random: &mut Random) -> Plain {
 /// A ring that one more mark fills with marks of one class.
 fn primed(random: &mut Random) -> Vec<Call> {
     let mut t = sound(random);
-    let (lo, hi) = (random.scale(20.0, 150.0) as f32, random.scale(2.2, 6.0) as f32);
+    let (lo, hi) = (
+        random.scale(20.0, 150.0) as f32,
+        random.scale(2.2, 6.0) as f32,
+    );
     (t.pair.lo, t.pair.hi, t.pair.ready) = (lo, (lo * hi).min(900.0), true);
     let dit = random.below(2) == 0;
     let boundary = (t.pair.lo * t.pair.hi).sqrt();
@@ -395,11 +434,21 @@ fn limit(random: &mut Random, t: &mut Plain) {
         }
         8 => {
             t.has_wpm = true;
-            set(t, Part::Wpm, 0, random.pick(&[0, MINUS, 1, 0x7F7F_FFFF, INFINITY, NAN, MINUS | 1]));
+            set(
+                t,
+                Part::Wpm,
+                0,
+                random.pick(&[0, MINUS, 1, 0x7F7F_FFFF, INFINITY, NAN, MINUS | 1]),
+            );
         }
         9 => {
             t.has_egap = true;
-            set(t, Part::Egap, 0, random.pick(&[0, MINUS, 1, 0x7F7F_FFFF, INFINITY, NAN, MINUS | 1]));
+            set(
+                t,
+                Part::Egap,
+                0,
+                random.pick(&[0, MINUS, 1, 0x7F7F_FFFF, INFINITY, NAN, MINUS | 1]),
+            );
         }
         10 => {
             t.has_hint = true;

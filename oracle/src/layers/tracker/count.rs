@@ -275,7 +275,11 @@ impl Watch {
         let hi = if (2.2..=6.0).contains(&ratio) {
             hi
         } else {
-            lo * if before.has_hint { before.ratio_hint } else { 3.0 }
+            lo * if before.has_hint {
+                before.ratio_hint
+            } else {
+                3.0
+            }
         };
         let is_dit = d < (lo * hi).sqrt();
         CLASS_TURNS.when(is_dit != (d < (p.lo * p.hi).sqrt()) && p.confirmed);
@@ -309,7 +313,11 @@ impl Watch {
         let mean = ring.iter().map(|e| f64::from(e.dur_ms)).sum::<f64>() / 12.0;
         let square = |e: &RingEntry| (f64::from(e.dur_ms) - mean).powi(2);
         let cv = (ring.iter().map(square).sum::<f64>() / 12.0).sqrt() / mean;
-        let anchor = f64::from(if is_dit { ring[0].pre_lo } else { ring[0].pre_hi });
+        let anchor = f64::from(if is_dit {
+            ring[0].pre_lo
+        } else {
+            ring[0].pre_hi
+        });
         let (spread, near) = (cv >= 0.35, (mean - anchor).abs() / anchor <= 0.40);
         if !spread && !near {
             DRIFT_DITS.when(is_dit);
@@ -390,7 +398,10 @@ fn resolve(before: &Plain, gaps: &[u32], yes: bool) {
     let p = &before.pair;
     let gaps: Vec<f32> = gaps.iter().map(|&g| f32::from_bits(g)).collect();
     let (low, high) = (p.lo * (1.0 / 6.0), p.lo * 0.577_35);
-    let band = gaps.iter().filter(|&&g| g.is_finite() && g >= low && g < high).count();
+    let band = gaps
+        .iter()
+        .filter(|&&g| g.is_finite() && g >= low && g < high)
+        .count();
     RESOLVE_UNREADY.when(!p.ready);
     RESOLVE_CONFIRMED.when(p.ready && p.confirmed);
     RESOLVE_DAHS.when(p.ready && !p.confirmed && p.placeholder_is_lo);
@@ -539,7 +550,8 @@ fn sound(t: &Plain) {
     RING_12.when(t.ring_len == 12);
     RECENT_5.when(t.recent_len == 5);
     for e in &t.ring[..t.ring_len] {
-        ENTRY_LIMITS.when(e.pre_lo == 20.0 && e.pre_hi == 16.0 || e.pre_lo == 150.0 && e.pre_hi == 2_500.0);
+        ENTRY_LIMITS
+            .when(e.pre_lo == 20.0 && e.pre_hi == 16.0 || e.pre_lo == 150.0 && e.pre_hi == 2_500.0);
     }
     HELD_LIMITS.when(durations(t).any(|d| d == SHORT) && durations(t).any(|d| d == LONG));
     let least = |x: f32| x.to_bits() == 1 || x == f32::MAX;

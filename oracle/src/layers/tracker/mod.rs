@@ -207,19 +207,24 @@ fn same(t: &Plain, m: &SpeedTracker) -> bool {
         && t.ring_len <= 12
         && t.recent_len <= 5
         && same_floats(&p.init[..p.init_len], q.init.iter())
-        && (p.ready, p.confirmed, p.placeholder_is_lo, p.lo_n) == (q.ready, q.confirmed, q.placeholder_is_lo, q.lo_n)
+        && (p.ready, p.confirmed, p.placeholder_is_lo, p.lo_n)
+            == (q.ready, q.confirmed, q.placeholder_is_lo, q.lo_n)
         && t.ring_len == m.ring.len()
-        && t.ring.iter().zip(&m.ring).all(|(e, &(dur_ms, is_dit, pre_lo, pre_hi))| {
-            same_float(e.dur_ms, dur_ms)
-                && e.assigned_dit == is_dit
-                && same_float(e.pre_lo, pre_lo)
-                && same_float(e.pre_hi, pre_hi)
-        })
+        && t.ring
+            .iter()
+            .zip(&m.ring)
+            .all(|(e, &(dur_ms, is_dit, pre_lo, pre_hi))| {
+                same_float(e.dur_ms, dur_ms)
+                    && e.assigned_dit == is_dit
+                    && same_float(e.pre_lo, pre_lo)
+                    && same_float(e.pre_hi, pre_hi)
+            })
         && same_option(t.has_wpm, t.wpm_ema, m.wpm_ema)
         && same_floats(&t.recent[..t.recent_len], m.recent.iter())
         && same_option(t.has_egap, t.mu_egap_ms, m.mu_egap_ms)
         && same_option(t.has_hint, t.ratio_hint, m.ratio_hint)
-        && (t.regime, t.badlock_recovered, t.lo_uncorroborated) == (m.regime, m.badlock_recovered, m.lo_uncorroborated)
+        && (t.regime, t.badlock_recovered, t.lo_uncorroborated)
+            == (m.regime, m.badlock_recovered, m.lo_uncorroborated)
 }
 
 /// Whether two are the same bit for bit, places beyond a count and absent numbers too.
@@ -483,7 +488,11 @@ impl Both {
                         rust: format!("{m:?}"),
                     });
                 }
-                states::compare(&format!("{call:?}"), &State::from(&manta(ours)), &State::from(m))
+                states::compare(
+                    &format!("{call:?}"),
+                    &State::from(&manta(ours)),
+                    &State::from(m),
+                )
             }
             _ => Ok(()),
         }
@@ -549,7 +558,10 @@ fn simpler(call: &Call) -> Vec<Call> {
             .into_iter()
             .map(Call::Resolve)
             .collect(),
-        Call::Set(part, i, v) => simpler_f32(*v).into_iter().map(|v| Call::Set(*part, *i, v)).collect(),
+        Call::Set(part, i, v) => simpler_f32(*v)
+            .into_iter()
+            .map(|v| Call::Set(*part, *i, v))
+            .collect(),
         _ => Vec::new(),
     }
 }
