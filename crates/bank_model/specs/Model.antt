@@ -78,6 +78,18 @@ ticked (FormerPrimary n) = FormerPrimary (n - 1)
 
 -- ---- one part changed
 
+abbrev pub withTracker : Hyp → Tracker → Hyp
+withTracker h t = record {
+  tracker = t;
+  score = h .score;
+  gap-score = h .gap-score;
+  lead = h .lead;
+  age = h .age;
+  origin = h .origin;
+  reported = h .reported;
+  serial = h .serial;
+}
+
 abbrev pub withChallengers : Bank → List Hyp → Bank
 withChallengers b l = record {
   width = b .width;

@@ -24,7 +24,7 @@ use Rattle.bank_model.specs.declared.Departure.{Departure}
 use Rattle.bank_model.specs.declared.SwitchRecord.{SwitchRecord}
 use Rattle.bank_model.specs.Constants.{pauseDits}
 use Rattle.bank_model.specs.Model.{Hyp, Evidence, Bank, Told, stay, andThen, up1, following, retained, ticked, withChallengers, withNew, withEvidence, withLastGap}
-use Rattle.bank_model.specs.Scores.{markScore, gapScore, zeroScore, ahead, behind, above, below, alike}
+use Rattle.bank_model.specs.Scores.{markScore, gapScore, zeroScore, ahead, behind, above, below, lnDit, lnDah, twins, alike}
 
 abbrev pub none-yet : Evidence
 none-yet = record { streak = []; gaps = []; side = none; last-gap = none }
@@ -76,13 +76,20 @@ highestFrom q i acc (h ∷ l) = highestFrom q (suc i) (cond (q h) (higher i (h .
 
 -- ---- `spawn`
 
-unfoldable pub anyAlike : Tracker → List Hyp → Bool
-anyAlike t [] = false
-anyAlike t (h ∷ l) = alike t (h .tracker) || anyAlike t l
+-- a tracker with these logarithms duplicates one of these
+unfoldable pub anyTwin : Float → Float → List Hyp → Bool
+anyTwin lo hi [] = false
+anyTwin lo hi (h ∷ l) = twins lo hi (lnDit (h .tracker)) (lnDah (h .tracker)) || anyTwin lo hi l
 
--- it duplicates a live hypothesis
+abbrev pub anyAlike : Tracker → List Hyp → Bool
+anyAlike t l = anyTwin (lnDit t) (lnDah t) l
+
+-- it duplicates a live hypothesis; the primary has the logarithms lo and hi
+abbrev pub duplicateAt : Bank → Float → Float → Tracker → Bool
+duplicateAt b lo hi t = twins (lnDit t) (lnDah t) lo hi || anyAlike t (b .challengers)
+
 abbrev pub duplicate : Bank → Tracker → Tracker → Bool
-duplicate b p t = alike t p || anyAlike t (b .challengers)
+duplicate b p t = duplicateAt b (lnDit p) (lnDah p) t
 
 abbrev pub roomy : Bank → Bool
 roomy b = ltb (length (b .challengers) + 1) (b .width)
@@ -119,11 +126,14 @@ abbrev pub replacing : Bank → Hyp → Option ℕ → Told
 replacing b h none = stay b
 replacing b h (some i) = replacedBy b h i (getElem? (b .challengers) i)
 
-unfoldable pub spawned : Bank → Tracker → Origin → Tracker → Told
-spawned b p o t =
-    cond (duplicate b p t) (stay b)
+unfoldable pub spawnedAt : Bank → Float → Float → Origin → Tracker → Told
+spawnedAt b lo hi o t =
+    cond (duplicateAt b lo hi t) (stay b)
     (cond (roomy b) (pushed b (newborn b t o))
     (replacing b (newborn b t o) (victim (b .challengers))))
+
+abbrev pub spawned : Bank → Tracker → Origin → Tracker → Told
+spawned b p o t = spawnedAt b (lnDit p) (lnDah p) o t
 
 abbrev pub spawnedIf : Bank → Tracker → Origin → Option Tracker → Told
 spawnedIf b p o none = stay b
@@ -234,12 +244,16 @@ unfoldable pub streaked : Settings → Bank → Tracker → Float → Option Flo
 streaked k b p d gap = streakEnd k b p (streakOn (b .evidence) (high p d) d gap)
 
 -- why a challenger leaves at `prune`, if it does
-unfoldable pub cause : Settings → Float → Tracker → Hyp → Option Cause
-cause k score p h =
-    cond (alike (h .tracker) p) (some Twin)
+-- (the primary has the logarithms lo and hi)
+unfoldable pub causeAt : Settings → Float → Float → Float → Hyp → Option Cause
+causeAt k score lo hi h =
+    cond (twins (lnDit (h .tracker)) (lnDah (h .tracker)) lo hi) (some Twin)
     (cond (retained (h .origin)) none
     (cond (behind k score (h .score)) (some Outscored)
     (cond (leb 64 (h .age)) (some Aged) none)))
+
+abbrev pub cause : Settings → Float → Tracker → Hyp → Option Cause
+cause k score p h = causeAt k score (lnDit p) (lnDah p) h
 
 abbrev pub stayIf : Option Cause → Hyp → List Hyp → List Hyp
 stayIf none h l = h ∷ l

@@ -1,0 +1,2 @@
+// What the calls do, for banks that are sound: each function asks what it needs.
+pub mod each;
