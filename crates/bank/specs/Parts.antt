@@ -1,6 +1,7 @@
 -- What the parts of the code ask of a bank: soundness, part by part. Definitions only.
 use mathlib.Core.Path.{_≡_}
-use mathlib.Core.Bool.{Bool, true}
+use mathlib.Core.Bool.{Bool, true, false}
+use mathlib.Core.Option.{Option, none, some}
 use mathlib.Core.List.{List, [], _∷_}
 use Prim.Native.Nat.{ℕ, _≤_, _<_}
 use lib.Dec.{T}
@@ -14,7 +15,8 @@ use Rattle.bank_model.specs.declared.SwitchRecord.{SwitchRecord}
 use Rattle.bank_model.specs.Scores.{lnDit, lnDah}
 use Rattle.bank.specs.declared.TimingHypothesis.{TimingHypothesis}
 use Rattle.bank.specs.declared.TimingBank.{TimingBank}
-use Rattle.bank.specs.View.{viewHyp}
+use Rattle.bank_model.specs.Model.{Hyp}
+use Rattle.bank.specs.View.{viewHyp, viewAll}
 
 -- "the widest bank"
 abbrev pub widest : ℕ
@@ -39,3 +41,70 @@ pub record Crew (n : ℕ) (l : List TimingHypothesis) : Type 0 where
   pub few : n ≤ widest
   pub long : length l ≡ widest
   pub each : All Fit (take n l)
+
+-- there is none
+abbrev pub isNone : {A : Type 0} → Option A → Bool
+isNone none = true
+isNone (some x) = false
+
+-- a bank with other challengers in its array
+abbrev pub restocked : TimingBank → List TimingHypothesis → TimingBank
+restocked b l = record {
+  width = b .width;
+  switching = b .switching;
+  «primary_score» = b .«primary_score»;
+  «primary_gap_score» = b .«primary_gap_score»;
+  challengers = l;
+  «challengers_len» = b .«challengers_len»;
+  streak = b .streak;
+  «streak_len» = b .«streak_len»;
+  «streak_gaps» = b .«streak_gaps»;
+  «streak_gaps_len» = b .«streak_gaps_len»;
+  «has_side» = b .«has_side»;
+  «streak_side» = b .«streak_side»;
+  «has_last_gap» = b .«has_last_gap»;
+  «last_gap» = b .«last_gap»;
+  «marks_seen» = b .«marks_seen»;
+  «gaps_seen» = b .«gaps_seen»;
+  «has_pending» = b .«has_pending»;
+  pending = b .pending;
+  log = b .log;
+  «log_len» = b .«log_len»;
+  started = b .started;
+}
+
+-- r is b with other challengers, as many, that mean l
+pub record Restocked (b r : TimingBank) (l : List Hyp) : Type 0 where
+  pub same : r ≡ restocked b (r .challengers)
+  pub is : viewAll (b .«challengers_len») (r .challengers) ≡ l
+  pub crew : Crew (b .«challengers_len») (r .challengers)
+
+-- the streak and its gaps
+pub record Streaks (streak : List Float) (n : ℕ) (gaps : List Float) (m : ℕ) : Type 0 where
+  pub few : n ≤ 4
+  pub paired : m ≤ n
+  pub marks : AllIn durationMin durationMax (take n streak)
+  pub between : AllIn durationMin durationMax (take m gaps)
+
+-- a switch that was made, or would have been
+pub record Recorded (s : SwitchRecord) : Type 0 where
+  pub from : In durationMin durationMax (s .«from_dit_ms»)
+  pub to : In durationMin durationMax (s .«to_dit_ms»)
+
+pub record Log (l : List SwitchRecord) (n : ℕ) : Type 0 where
+  pub few : n ≤ 16
+  pub long : length l ≡ 16
+  pub each : All Recorded (take n l)
+
+-- what a sound bank has
+pub record Sturdy (b : TimingBank) : Type 0 where
+  pub some : 1 ≤ b .width
+  pub wide : b .width ≤ widest
+  pub below : b .«challengers_len» < b .width
+  pub crew : Crew (b .«challengers_len») (b .challengers)
+  pub score : In scoreMin nought (b .«primary_score»)
+  pub gapScore : In scoreMin nought (b .«primary_gap_score»)
+  pub streaks : Streaks (b .streak) (b .«streak_len») (b .«streak_gaps») (b .«streak_gaps_len»)
+  pub lastGap : b .«has_last_gap» ≡ true → In durationMin durationMax (b .«last_gap»)
+  pub pending : b .«has_pending» ≡ true → b .pending < b .«challengers_len»
+  pub log : Log (b .log) (b .«log_len»)

@@ -1,2 +1,4 @@
 // What the calls do, for banks that are sound: each function asks what it needs.
+pub mod among;
 pub mod each;
+pub mod every;
