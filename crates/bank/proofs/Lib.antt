@@ -1,3 +1,4 @@
 pub mod Each
+pub mod Finds
 pub mod Lists
 pub mod Stock

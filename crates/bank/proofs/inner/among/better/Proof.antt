@@ -1,3 +1,4 @@
+use mathlib.Core.Path.{_≡_, refl, ap, sym, _∙_}
 use borrow.Author.Needs.{needs}
 use Rattle.bank.proofs.inner.among.better.Statement.{statement}
 use Rattle.bank.proofs.inner.among.better.Tie as tie
@@ -16,11 +17,11 @@ highest-of-requires c κs = search needs
 
 -- src/inner/among.rt:82:1
 returns : tie.Need-returns
-returns c = ?
+returns c = rw (sym (c .before .before .is-qualified .ensures) ∙ c .before .if1 .taken) (c .highest-of .ensures)
 
 -- src/inner/among.rt:82:1
 returns-2 : tie.Need-returns-2
-returns-2 c = ?
+returns-2 c = rw (sym (c .before .is-qualified .ensures) ∙ c .if1 .left)
 
 pub better-spec : {M : Type 1} → statement M
 better-spec = tie.close (tie.spec is-qualified-requires highest-of-requires returns returns-2)

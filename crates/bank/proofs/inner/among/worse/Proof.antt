@@ -1,3 +1,4 @@
+use mathlib.Core.Path.{_≡_, refl, ap, sym, _∙_}
 use borrow.Author.Needs.{needs}
 use Rattle.bank.proofs.inner.among.worse.Statement.{statement}
 use Rattle.bank.proofs.inner.among.worse.Tie as tie
@@ -16,11 +17,11 @@ least-of-requires c κs = search needs
 
 -- src/inner/among.rt:55:1
 returns : tie.Need-returns
-returns c = ?
+returns c = rw (sym (c .before .before .is-eligible .ensures) ∙ c .before .if1 .taken) (c .least-of .ensures)
 
 -- src/inner/among.rt:55:1
 returns-2 : tie.Need-returns-2
-returns-2 c = ?
+returns-2 c = rw (sym (c .before .is-eligible .ensures) ∙ c .if1 .left)
 
 pub worse-spec : {M : Type 1} → statement M
 worse-spec = tie.close (tie.spec is-eligible-requires least-of-requires returns returns-2)
