@@ -1,5 +1,6 @@
 -- A loop over a bank's challengers that sends each through a function: its invariant, where it begins, one turn, and where it ends. Assumes nothing.
 use mathlib.Core.Path.{_≡_, refl, ap, sym, _∙_, subst}
+use mathlib.Core.Bool.{true}
 use mathlib.Core.List.{List, map}
 use Prim.Native.Nat.{ℕ, _+_, _≤_, _<_}
 use native.Mathlib.Omega.{arith}
@@ -8,7 +9,7 @@ use Rattle.bank_model.specs.Model.{Hyp, Bank, withChallengers}
 use Rattle.bank.specs.declared.TimingHypothesis.{TimingHypothesis}
 use Rattle.bank.specs.declared.TimingBank.{TimingBank}
 use Rattle.bank.specs.View.{viewHyp, viewAll, view}
-use Rattle.bank.specs.Parts.{widest, Fit, Crew, restocked, Restocked, Sturdy}
+use Rattle.bank.specs.Parts.{widest, Fit, Crew, restocked, Restocked, Steady}
 use Rattle.bank.proofs.Lists.{upTo, upTo-zero, all-set, all-at, turn, done}
 
 -- a crew's member
@@ -68,8 +69,8 @@ module _ (b r : TimingBank) (l : List Hyp) (k : Restocked b r l) where
   pub restocked-view : view r ≡ withChallengers (view b) l
   restocked-view = ap view (k .same) ∙ ap (withChallengers (view b)) (k .is)
 
-  pub restocked-sturdy : Sturdy b → Sturdy r
-  restocked-sturdy s = subst Sturdy (sym (k .same)) (record {
+  pub restocked-steady : Steady b → Steady r
+  restocked-steady s = subst Steady (sym (k .same)) (record {
     some = s .some;
     wide = s .wide;
     below = s .below;
@@ -78,6 +79,8 @@ module _ (b r : TimingBank) (l : List Hyp) (k : Restocked b r l) where
     gapScore = s .gapScore;
     streaks = s .streaks;
     lastGap = s .lastGap;
-    pending = s .pending;
     log = s .log;
   })
+
+  pub restocked-pending : (b .«has_pending» ≡ true → b .pending < b .«challengers_len») → r .«has_pending» ≡ true → r .pending < r .«challengers_len»
+  restocked-pending p = subst (λ (x : TimingBank). x .«has_pending» ≡ true → x .pending < x .«challengers_len») (sym (k .same)) p

@@ -15,8 +15,9 @@ use Rattle.bank_model.specs.declared.SwitchRecord.{SwitchRecord}
 use Rattle.bank_model.specs.Scores.{lnDit, lnDah}
 use Rattle.bank.specs.declared.TimingHypothesis.{TimingHypothesis}
 use Rattle.bank.specs.declared.TimingBank.{TimingBank}
-use Rattle.bank_model.specs.Model.{Hyp}
-use Rattle.bank.specs.View.{viewHyp, viewAll}
+use Rattle.bank_model.specs.Model.{Hyp, Bank, Told, withEvidence}
+use Rattle.bank.specs.declared.Changed.{Changed}
+use Rattle.bank.specs.View.{viewHyp, viewAll, told}
 
 -- "the widest bank"
 abbrev pub widest : ℕ
@@ -96,8 +97,8 @@ pub record Log (l : List SwitchRecord) (n : ℕ) : Type 0 where
   pub long : length l ≡ 16
   pub each : All Recorded (take n l)
 
--- what a sound bank has
-pub record Sturdy (b : TimingBank) : Type 0 where
+-- what a sound bank has, but for its choice
+pub record Steady (b : TimingBank) : Type 0 where
   pub some : 1 ≤ b .width
   pub wide : b .width ≤ widest
   pub below : b .«challengers_len» < b .width
@@ -106,5 +107,20 @@ pub record Sturdy (b : TimingBank) : Type 0 where
   pub gapScore : In scoreMin nought (b .«primary_gap_score»)
   pub streaks : Streaks (b .streak) (b .«streak_len») (b .«streak_gaps») (b .«streak_gaps_len»)
   pub lastGap : b .«has_last_gap» ≡ true → In durationMin durationMax (b .«last_gap»)
-  pub pending : b .«has_pending» ≡ true → b .pending < b .«challengers_len»
   pub log : Log (b .log) (b .«log_len»)
+
+-- what a sound bank has
+pub record Sturdy (b : TimingBank) : Type 0 where
+  pub steady : Steady b
+  pub pending : b .«has_pending» ≡ true → b .pending < b .«challengers_len»
+
+-- a bank and those that left it, at most one, as m says
+pub record Came (r : Changed) (m : Told) : Type 0 where
+  pub is : told r ≡ m
+  pub sturdy : Sturdy (r .bank)
+  pub few : r .«left_len» ≤ 1
+  pub room : length (r .left) ≡ 9
+
+-- a bank with another streak, on a side
+abbrev pub withStreak : Bank → Bool → List Float → List Float → Bank
+withStreak b side marks gaps = withEvidence b (record { streak = marks; gaps = gaps; side = some side; last-gap = b .evidence .last-gap })

@@ -2,3 +2,7 @@
 pub mod among;
 pub mod each;
 pub mod every;
+pub mod leave;
+pub mod qualify;
+pub mod spawn;
+

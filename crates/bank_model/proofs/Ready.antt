@@ -12,16 +12,16 @@ use Rattle.ranges.specs.Settings.{Settings, standard}
 use Rattle.ranges.specs.Limits.{dahMin, dahMax}
 use Rattle.ranges.specs.Interval.{In}
 use Rattle.ranges.specs.Mean.{meanOf}
-use Rattle.ranges.proofs.Standard.{dit-positive, estimate-in}
+use Rattle.ranges.proofs.Standard.{dit-positive, estimate-in, standard-good, standard-held}
 use Rattle.ranges.specs.Average.{average}
 use Rattle.tracker.specs.Constants.{two}
-use Rattle.tracker.specs.Model.{Pair, Tracker, view, withCentroids}
+use Rattle.tracker.specs.Model.{Pair, Tracker, view, withCentroids, withPair}
 use Rattle.tracker.specs.Lock.{parts, bimodal, asDahs, asDits, unimodal, locked, initialized, constrained, anchorsDit, anchorsDah, boundary, moved, learnt, observed}
-use Rattle.tracker.specs.Steps.{bound, uniform, drifts, drifted, fragment, recoveredBy, checked, followed, onMark, settled, estimate, ditEstimate, elementGap, onGap}
+use Rattle.tracker.specs.Steps.{bound, uniform, drifts, drifted, fragment, recoveredBy, checked, followed, fresh, fromMarks, otherPair, hasOther, threeToOne, onMark, settled, estimate, ditEstimate, elementGap, onGap}
 use Rattle.tracker.specs.declared.SpeedTracker.{SpeedTracker}
 use Rattle.tracker.specs.Sound.{positiveOr, sound}
 use Rattle.tracker.proofs.Soundness.{sound-fine, ready-in}
-use Rattle.tracker.proofs.Keeping.{by-cond, on-true}
+use Rattle.tracker.proofs.Keeping.{by-cond, on-true, gaps-pair}
 use Rattle.bank_model.specs.Constants.{milli}
 
 abbrev Up : Pair → Type 0
@@ -97,3 +97,23 @@ module _ (t : SpeedTracker) (s : T (sound standard t)) (u : t .pair .ready ≡ t
 
   pub dah-log : T (positive (larger (t .pair .hi) milli))
   dah-log = larger-positive _ (dah-positive _ (ready-in standard (view t .pair) u (sound-fine standard t s .pair) .1))
+
+-- ---- trackers that a bank makes
+pub from-ready : (l g : List Float) → fromMarks standard l g .pair .ready ≡ true
+unfolding fromMarks
+from-ready l g = ap (λ (p : Pair). p .ready) (gaps-pair standard standard-good standard-held (bound standard (withPair fresh (initialized standard l))) g) ∙ constrained-ready standard _ _ (locked-ready standard _)
+
+other-up : (p : Pair) → Up (otherPair p)
+other-up p = by-cond Up (p .placeholderIsLo) _ _ (λ e. refl) (λ e. refl)
+
+abbrev some-is : {A : Type 0} (d : A) → Option A → A
+some-is d none = d
+some-is d (some x) = x
+
+turned-by : (b : Bool) (x y : Tracker) → x .pair .ready ≡ true → cond b (some x) none ≡ some y → y .pair .ready ≡ true
+turned-by true x y r e = subst (λ (z : Tracker). z .pair .ready ≡ true) (ap (some-is x) e) r
+turned-by false x y r e = cc
+
+pub turned-ready : (k : Settings) (m t : Tracker) → threeToOne k m ≡ some t → t .pair .ready ≡ true
+unfolding threeToOne
+turned-ready k m t e = turned-by (hasOther k (m .pair)) _ t (constrained-ready k _ _ (other-up (m .pair))) e

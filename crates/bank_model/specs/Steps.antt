@@ -135,9 +135,12 @@ spawnedAt b lo hi o t =
 abbrev pub spawned : Bank → Tracker → Origin → Tracker → Told
 spawned b p o t = spawnedAt b (lnDit p) (lnDah p) o t
 
+abbrev pub spawnedIfAt : Bank → Float → Float → Origin → Option Tracker → Told
+spawnedIfAt b lo hi o none = stay b
+spawnedIfAt b lo hi o (some t) = spawnedAt b lo hi o t
+
 abbrev pub spawnedIf : Bank → Tracker → Origin → Option Tracker → Told
-spawnedIf b p o none = stay b
-spawnedIf b p o (some t) = spawned b p o t
+spawnedIf b p o t = spawnedIfAt b (lnDit p) (lnDah p) o t
 
 -- ---- `on_ready`
 
@@ -224,24 +227,31 @@ abbrev pub emptied : Evidence → Evidence
 emptied v = record { streak = []; gaps = []; side = v .side; last-gap = v .last-gap }
 
 -- a twin of the primary is turned to its three-to-one reading, or dropped
-abbrev pub turnedIf : Settings → Tracker → Tracker → Option Tracker
-turnedIf k p t = cond (alike t p) (threeToOne k t) (some t)
+-- (the primary has the logarithms lo and hi)
+abbrev pub turnedIf : Settings → Float → Float → Tracker → Option Tracker
+turnedIf k lo hi t = cond (twins (lnDit t) (lnDah t) lo hi) (threeToOne k t) (some t)
 
-unfoldable pub candidate : Settings → Tracker → Evidence → Option Tracker
-candidate k p v = turnedIf k p (fromMarks k (v .streak) (v .gaps))
+unfoldable pub candidateAt : Settings → Float → Float → Evidence → Option Tracker
+candidateAt k lo hi v = turnedIf k lo hi (fromMarks k (v .streak) (v .gaps))
+
+abbrev pub candidate : Settings → Tracker → Evidence → Option Tracker
+candidate k p v = candidateAt k (lnDit p) (lnDah p) v
 
 abbrev pub short : Evidence → Bool
 short v = ltb (length (v .streak)) 4
 
-abbrev pub streakEnd : Settings → Bank → Tracker → Evidence → Told
-streakEnd k b p v = cond (short v) (stay (withEvidence b v)) (spawnedIf (withEvidence b (emptied v)) p Streak (candidate k p v))
+abbrev pub streakEnd : Settings → Bank → Float → Float → Evidence → Told
+streakEnd k b lo hi v = cond (short v) (stay (withEvidence b v)) (spawnedIfAt (withEvidence b (emptied v)) lo hi Streak (candidateAt k lo hi v))
+
+unfoldable pub streakAt : Settings → Bank → Float → Float → Bool → Float → Option Float → Told
+streakAt k b lo hi side d gap = streakEnd k b lo hi (streakOn (b .evidence) side d gap)
 
 -- the mark is at the boundary or above it
 abbrev pub high : Tracker → Float → Bool
 high p d = le (boundary (p .pair)) d
 
-unfoldable pub streaked : Settings → Bank → Tracker → Float → Option Float → Told
-streaked k b p d gap = streakEnd k b p (streakOn (b .evidence) (high p d) d gap)
+abbrev pub streaked : Settings → Bank → Tracker → Float → Option Float → Told
+streaked k b p d gap = streakAt k b (lnDit p) (lnDah p) (high p d) d gap
 
 -- why a challenger leaves at `prune`, if it does
 -- (the primary has the logarithms lo and hi)
@@ -271,11 +281,14 @@ unfoldable pub leaving : (Hyp → Option Cause) → List Hyp → List Departure
 leaving f [] = []
 leaving f (h ∷ l) = leaveIf (f h) h (leaving f l)
 
-unfoldable pub pruned : Settings → Tracker → Bank → Told
-pruned k p b = record {
-  bank = withChallengers b (staying (cause k (b .score) p) (b .challengers));
-  left = leaving (cause k (b .score) p) (b .challengers);
+unfoldable pub prunedAt : Settings → Float → Float → Bank → Told
+prunedAt k lo hi b = record {
+  bank = withChallengers b (staying (causeAt k (b .score) lo hi) (b .challengers));
+  left = leaving (causeAt k (b .score) lo hi) (b .challengers);
 }
+
+abbrev pub pruned : Settings → Tracker → Bank → Told
+pruned k p b = prunedAt k (lnDit p) (lnDah p) b
 
 unfoldable pub led : Settings → Float → Hyp → Hyp
 led k p h = record {
