@@ -5,3 +5,4 @@ pub mod Stock
 pub mod Leaving
 pub mod Coming
 pub mod Choosing
+pub mod Streaking

@@ -84,8 +84,14 @@ pub record Restocked (b r : TimingBank) (l : List Hyp) : Type 0 where
 pub record Streaks (streak : List Float) (n : ℕ) (gaps : List Float) (m : ℕ) : Type 0 where
   pub few : n ≤ 4
   pub paired : m ≤ n
+  pub long : length streak ≡ 4
+  pub gapsLong : length gaps ≡ 4
   pub marks : AllIn durationMin durationMax (take n streak)
   pub between : AllIn durationMin durationMax (take m gaps)
+
+-- a gap, where there is one
+abbrev pub GapIn : Bool → Float → Type 0
+GapIn has gap = has ≡ true → In durationMin durationMax gap
 
 -- a switch that was made, or would have been
 pub record Recorded (s : SwitchRecord) : Type 0 where
@@ -106,7 +112,7 @@ pub record Steady (b : TimingBank) : Type 0 where
   pub score : In scoreMin nought (b .«primary_score»)
   pub gapScore : In scoreMin nought (b .«primary_gap_score»)
   pub streaks : Streaks (b .streak) (b .«streak_len») (b .«streak_gaps») (b .«streak_gaps_len»)
-  pub lastGap : b .«has_last_gap» ≡ true → In durationMin durationMax (b .«last_gap»)
+  pub lastGap : GapIn (b .«has_last_gap») (b .«last_gap»)
   pub log : Log (b .log) (b .«log_len»)
 
 -- what a sound bank has
@@ -124,3 +130,8 @@ pub record Came (r : Changed) (m : Told) : Type 0 where
 -- a bank with another streak, on a side
 abbrev pub withStreak : Bank → Bool → List Float → List Float → Bank
 withStreak b side marks gaps = withEvidence b (record { streak = marks; gaps = gaps; side = some side; last-gap = b .evidence .last-gap })
+
+-- refusal 2 does not hold
+pub record Countable (b : TimingBank) : Type 0 where
+  pub marks : b .«marks_seen» < 4294967295
+  pub gaps : b .«gaps_seen» < 4294967295

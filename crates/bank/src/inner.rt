@@ -5,4 +5,4 @@ pub mod every;
 pub mod leave;
 pub mod qualify;
 pub mod spawn;
-
+pub mod streak;

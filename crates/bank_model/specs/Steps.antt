@@ -372,8 +372,12 @@ greatestUnit k u [] = u
 greatestUnit k u (h ∷ l) = greatestUnit k (larger u (ditEstimate k (h .tracker))) l
 
 -- "A gap of 12 greatest units or more scores nothing and empties the held gap"
-unfoldable pub pausing : Settings → Bank → Tracker → Float → Bool
-pausing k b p d = le (mul binary32 pauseDits (greatestUnit k (ditEstimate k p) (b .challengers))) d
+-- (the primary's unit is u)
+unfoldable pub pausingAt : Settings → Bank → Float → Float → Bool
+pausingAt k b u d = le (mul binary32 pauseDits (greatestUnit k u (b .challengers))) d
+
+abbrev pub pausing : Settings → Bank → Tracker → Float → Bool
+pausing k b p d = pausingAt k b (ditEstimate k p) d
 
 unfoldable pub onGap : Settings → Bank → Tracker → Float → Bank
 onGap k b p d =
