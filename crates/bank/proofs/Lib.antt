@@ -6,3 +6,4 @@ pub mod Leaving
 pub mod Coming
 pub mod Choosing
 pub mod Streaking
+pub mod Hearing

@@ -2,6 +2,7 @@
 pub mod among;
 pub mod each;
 pub mod every;
+pub mod gap;
 pub mod leave;
 pub mod qualify;
 pub mod spawn;
