@@ -127,9 +127,9 @@ module _ (b : Bank) (p : Tracker) (d : Float) where
   abbrev markBy : Bool → Bool → Told
   markBy live h = cond h (heardMark standard b p d live) (stay b)
 
-  pub mark-by : (live w r : Bool) → leb 2 (b .width) ≡ w → p .pair .ready ≡ r → markBy live (w && r) ≡ onMark standard b p d live
+  pub mark-heard-by : (live h : Bool) → (leb 2 (b .width) && p .pair .ready) ≡ h → markBy live h ≡ onMark standard b p d live
   unfolding onMark
-  mark-by live w r ew er = sym (ap (λ (x : Bool). markBy live (x && p .pair .ready)) ew ∙ ap (λ (x : Bool). markBy live (w && x)) er)
+  mark-heard-by live h e = ap (markBy live) (sym e)
 
 -- a mark that is scored, and not live; or live, and its streak
 module _ (b c : TimingBank) (p : Tracker) (lo hi d : Float) (live : Bool) (ec : view c ≡ scored standard (view b) p d live) (el : lo ≡ lnDit p) (eh : hi ≡ lnDah p) where

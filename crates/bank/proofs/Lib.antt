@@ -7,3 +7,4 @@ pub mod Coming
 pub mod Choosing
 pub mod Streaking
 pub mod Hearing
+pub mod Clearing

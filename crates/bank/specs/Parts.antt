@@ -103,6 +103,38 @@ pub record Log (l : List SwitchRecord) (n : ℕ) : Type 0 where
   pub long : length l ≡ 16
   pub each : All Recorded (take n l)
 
+-- a bank with another log
+abbrev pub relogged : TimingBank → List SwitchRecord → ℕ → TimingBank
+relogged b l n = record {
+  width = b .width;
+  switching = b .switching;
+  «primary_score» = b .«primary_score»;
+  «primary_gap_score» = b .«primary_gap_score»;
+  challengers = b .challengers;
+  «challengers_len» = b .«challengers_len»;
+  streak = b .streak;
+  «streak_len» = b .«streak_len»;
+  «streak_gaps» = b .«streak_gaps»;
+  «streak_gaps_len» = b .«streak_gaps_len»;
+  «has_side» = b .«has_side»;
+  «streak_side» = b .«streak_side»;
+  «has_last_gap» = b .«has_last_gap»;
+  «last_gap» = b .«last_gap»;
+  «marks_seen» = b .«marks_seen»;
+  «gaps_seen» = b .«gaps_seen»;
+  «has_pending» = b .«has_pending»;
+  pending = b .pending;
+  log = l;
+  «log_len» = n;
+  started = b .started;
+}
+
+-- r is b with another log, that means l
+pub record Logging (b r : TimingBank) (l : List SwitchRecord) : Type 0 where
+  pub same : r ≡ relogged b (r .log) (r .«log_len»)
+  pub is : take (r .«log_len») (r .log) ≡ l
+  pub log : Log (r .log) (r .«log_len»)
+
 -- what a sound bank has, but for its choice
 pub record Steady (b : TimingBank) : Type 0 where
   pub some : 1 ≤ b .width

@@ -1,4 +1,4 @@
-use Rattle.bank.proofs.Hearing.{dropped, gap-heard, mark-heard, primary-mark, gap-by, mark-by, silent-told, live-told, mark-told}
+use Rattle.bank.proofs.Hearing.{dropped, gap-heard, mark-heard, primary-mark, gap-by, mark-heard-by, silent-told, live-told, mark-told}
 use Rattle.bank.proofs.inner.gap.drop_gap.Statement.{statement}
 use Rattle.bank.proofs.inner.gap.drop_gap.Tie as tie
 use Rattle.bank.proofs.inner.gap.drop_gap.Reads as reads

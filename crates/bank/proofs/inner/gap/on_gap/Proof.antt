@@ -1,4 +1,4 @@
-use Rattle.bank.proofs.Hearing.{dropped, gap-heard, mark-heard, primary-mark, gap-by, mark-by, silent-told, live-told, mark-told}
+use Rattle.bank.proofs.Hearing.{dropped, gap-heard, mark-heard, primary-mark, gap-by, mark-heard-by, silent-told, live-told, mark-told}
 use Rattle.bank_model.proofs.Ready.{dit-log, dah-log, estimate-positive}
 use mathlib.Core.Path.{_≡_, refl, ap, sym, _∙_}
 use mathlib.Core.Bool.{Bool, true, false}
