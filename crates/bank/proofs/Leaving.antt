@@ -1,0 +1,279 @@
+-- A loop that keeps the challengers that no cause sends away, in order, and notes the others: its invariant, where it begins, both turns, and where it ends. Assumes nothing.
+use mathlib.Core.Path.{_≡_, refl, ap, sym, _∙_, subst}
+use mathlib.Core.Bool.{Bool, true, false, true≢false, false≢true}
+use mathlib.Core.List.{List, [], _∷_, _++_, map}
+use mathlib.Core.Option.{Option, none, some}
+use Prim.Native.Nat.{ℕ, zero, suc, _+_, _≤_, _<_}
+use native.Mathlib.Numerals.{add-one}
+use native.Mathlib.Nat.{add-zero}
+use native.Mathlib.Omega.{arith}
+use lib.ListN.{length, take, drop, getD, set, length-set}
+use lib.Seq.{take-suc, drop-set-lt, getD-take, take-all, drop-drop, getD-drop}
+use Rattle.ranges.specs.Settings.{standard}
+use lib.Ieee.{Float}
+use Rattle.bank_model.specs.declared.Cause.{Cause}
+use Rattle.bank_model.specs.declared.Cause.the-variants.{Cleared}
+use Rattle.bank_model.specs.declared.Departure.{Departure}
+use Rattle.bank_model.specs.Model.{Hyp, Bank, Told, andThen, withChallengers}
+use Rattle.bank_model.specs.Steps.{causeAt, stayIf, leaveIf, staying, leaving, prunedAt, goneCleared}
+use Rattle.bank.specs.declared.TimingHypothesis.{TimingHypothesis}
+use Rattle.bank.specs.declared.TimingBank.{TimingBank}
+use Rattle.bank.specs.declared.Changed.{Changed}
+use Rattle.bank.specs.View.{viewHyp, viewAll, view, told}
+use Rattle.bank.specs.Parts.{All, widest, isNone, Fit, Crew, restocked, Steady}
+use Rattle.bank.proofs.Lists.{all-at, all-append, all-none, put-at-end, append-nil, map-snoc, view-length, view-at}
+use Rattle.bank.proofs.Stock.{member, room}
+
+-- ---- one more at the end
+next : (l : List Hyp) (i : ℕ) (z : Hyp) → i < length l → take (i + 1) l ≡ take i l ++ (getD l i z ∷ [])
+next l i z h = rw add-one (take-suc l i z h)
+
+module _ (f : Hyp → Option Cause) where
+  stay-more : (o : Option Cause) (h : Hyp) (l m : List Hyp) → stayIf o h (l ++ m) ≡ stayIf o h l ++ m
+  stay-more none h l m = refl
+  stay-more (some c) h l m = refl
+
+  leave-more : (o : Option Cause) (h : Hyp) (l m : List Departure) → leaveIf o h (l ++ m) ≡ leaveIf o h l ++ m
+  leave-more none h l m = refl
+  leave-more (some c) h l m = refl
+
+  stay-snoc : (l : List Hyp) (x : Hyp) → staying f (l ++ (x ∷ [])) ≡ staying f l ++ stayIf (f x) x []
+  unfolding staying
+  stay-snoc [] x = refl
+  stay-snoc (y ∷ ys) x = ap (stayIf (f y) y) (stay-snoc ys x) ∙ stay-more (f y) y (staying f ys) (stayIf (f x) x [])
+
+  leave-snoc : (l : List Hyp) (x : Hyp) → leaving f (l ++ (x ∷ [])) ≡ leaving f l ++ leaveIf (f x) x []
+  unfolding leaving
+  leave-snoc [] x = refl
+  leave-snoc (y ∷ ys) x = ap (leaveIf (f y) y) (leave-snoc ys x) ∙ leave-more (f y) y (leaving f ys) (leaveIf (f x) x [])
+
+  pub stay-next : (l : List Hyp) (i : ℕ) (z x : Hyp) → i < length l → getD l i z ≡ x → staying f (take (i + 1) l) ≡ staying f (take i l) ++ stayIf (f x) x []
+  stay-next l i z x h e = ap (staying f) (next l i z h) ∙ stay-snoc (take i l) (getD l i z) ∙ ap (λ (y : Hyp). staying f (take i l) ++ stayIf (f y) y []) e
+
+  pub leave-next : (l : List Hyp) (i : ℕ) (z x : Hyp) → i < length l → getD l i z ≡ x → leaving f (take (i + 1) l) ≡ leaving f (take i l) ++ leaveIf (f x) x []
+  leave-next l i z x h e = ap (leaving f) (next l i z h) ∙ leave-snoc (take i l) (getD l i z) ∙ ap (λ (y : Hyp). leaving f (take i l) ++ leaveIf (f y) y []) e
+
+  none-stay : staying f [] ≡ []
+  unfolding staying
+  none-stay = refl
+
+  none-leave : leaving f [] ≡ []
+  unfolding leaving
+  none-leave = refl
+
+no-cause : (o : Option Cause) → isNone o ≡ true → o ≡ none
+no-cause none e = refl
+no-cause (some c) e = absurd (false≢true e)
+
+append-assoc : {A : Type 0} (a b c : List A) → (a ++ b) ++ c ≡ a ++ (b ++ c)
+append-assoc [] b c = refl
+append-assoc {A = A} (x ∷ a) b c = ap (λ (r : List A). x ∷ r) (append-assoc a b c)
+
+-- ---- the loop: i were looked at, w of them stay, and g left, g₀ of them before
+module _ (f : Hyp → Option Cause) (b : TimingBank) (gone₀ : List Departure) (g₀ : ℕ) where
+  pub record Sifting (c : TimingBank) (gone : List Departure) (g w i : ℕ) : Type 0 where
+    pub upto : i ≤ b .«challengers_len»
+    pub sum : g + w ≡ g₀ + i
+    pub behind : w ≤ i
+    pub same : c ≡ restocked b (c .challengers)
+    pub front : viewAll w (c .challengers) ≡ staying f (take i (view b .challengers))
+    pub rest : drop i (c .challengers) ≡ drop i (b .challengers)
+    pub left : take g gone ≡ take g₀ gone₀ ++ leaving f (take i (view b .challengers))
+    pub long : length (c .challengers) ≡ widest
+    pub space : length gone ≡ 9
+    pub few : g₀ ≤ 1
+    pub fine : All Fit (take w (c .challengers))
+    pub steady : Steady b
+
+  pub sift-begins : Steady b → g₀ ≤ 1 → length gone₀ ≡ 9 → Sifting b gone₀ g₀ 0 0
+  sift-begins s k r = record {
+    upto = omega arith;
+    sum = refl;
+    behind = omega arith;
+    same = refl;
+    front = sym (none-stay f);
+    rest = refl;
+    left = sym (ap (λ (l : List Departure). take g₀ gone₀ ++ l) (none-leave f) ∙ append-nil (take g₀ gone₀));
+    long = s .crew .long;
+    space = r;
+    few = k;
+    fine = all-none Fit;
+    steady = s;
+  }
+
+  module _ (c : TimingBank) (gone : List Departure) (g w i : ℕ) (z : TimingHypothesis) (k : Sifting c gone g w i) (h : i < b .«challengers_len») where
+    abbrev it : TimingHypothesis
+    it = getD (c .challengers) i z
+
+    here : it ≡ getD (b .challengers) i z
+    here =
+        let e : getD (drop i (c .challengers)) 0 z ≡ getD (drop i (b .challengers)) 0 z = ap (λ (l : List TimingHypothesis). getD l 0 z) (k .rest) in
+        simp (getD-drop, add-zero) at e
+
+    seen : getD (view b .challengers) i (viewHyp z) ≡ viewHyp it
+    seen = view-at viewHyp (b .«challengers_len») (b .challengers) i z h ∙ ap viewHyp (sym here)
+
+    size : i < length (view b .challengers)
+    size = let e = view-length viewHyp (b .«challengers_len») (b .challengers) (room (b .«challengers_len») (b .challengers) (k .steady .crew)) in omega arith
+
+    after : drop (i + 1) (c .challengers) ≡ drop (i + 1) (b .challengers)
+    after = sym (drop-drop 1 i (c .challengers)) ∙ ap (drop 1) (k .rest) ∙ drop-drop 1 i (b .challengers)
+
+    pub sift-member : Fit it
+    sift-member = subst Fit (sym here) (member (b .«challengers_len») (b .challengers) i z h (k .steady .crew))
+
+    pub sift-keeps : isNone (f (viewHyp it)) ≡ true → Sifting (restocked c (set (c .challengers) w it)) gone g (w + 1) (i + 1)
+    sift-keeps t =
+        let n = k .steady .crew .few in
+        let m = k .behind in
+        let u = k .sum in
+        let l = k .long in
+        let e = no-cause (f (viewHyp it)) t in
+        let at-end : take (w + 1) (set (c .challengers) w it) ≡ take w (c .challengers) ++ (it ∷ []) = put-at-end (c .challengers) w it (omega arith) in
+        record {
+          upto = omega arith;
+          sum = omega arith;
+          behind = omega arith;
+          same = ap (λ (x : TimingBank). restocked x (set (c .challengers) w it)) (k .same);
+          front =
+            ap (map viewHyp) at-end ∙ map-snoc viewHyp (take w (c .challengers)) it ∙ ap (λ (r : List Hyp). r ++ (viewHyp it ∷ [])) (k .front)
+            ∙ ap (λ (o : Option Cause). staying f (take i (view b .challengers)) ++ stayIf o (viewHyp it) []) (sym e) ∙ sym (stay-next f (view b .challengers) i (viewHyp z) (viewHyp it) size seen);
+          rest = drop-set-lt (i + 1) (c .challengers) w it (omega arith) ∙ after;
+          left =
+            k .left ∙ ap (λ (r : List Departure). take g₀ gone₀ ++ r)
+            (sym (append-nil (leaving f (take i (view b .challengers)))) ∙ ap (λ (o : Option Cause). leaving f (take i (view b .challengers)) ++ leaveIf o (viewHyp it) []) (sym e) ∙ sym (leave-next f (view b .challengers) i (viewHyp z) (viewHyp it) size seen));
+          long = length-set (c .challengers) w it ∙ k .long;
+          space = k .space;
+          few = k .few;
+          fine = subst (All Fit) (sym at-end) (all-append Fit (take w (c .challengers)) it (k .fine) sift-member);
+          steady = k .steady;
+        }
+
+    pub sift-drops : (y : Cause) → some y ≡ f (viewHyp it) → Sifting c (set gone g (record { serial = it .serial; cause = y })) (g + 1) w (i + 1)
+    sift-drops y e =
+        let n = k .steady .crew .few in
+        let m = k .few in
+        let u = k .sum in
+        let l = k .space in
+        let d : Departure = record { serial = it .serial; cause = y } in
+        record {
+          upto = omega arith;
+          sum = omega arith;
+          behind = let j = k .behind in omega arith;
+          same = k .same;
+          front =
+            k .front ∙ sym (append-nil (staying f (take i (view b .challengers)))) ∙ ap (λ (o : Option Cause). staying f (take i (view b .challengers)) ++ stayIf o (viewHyp it) []) e
+            ∙ sym (stay-next f (view b .challengers) i (viewHyp z) (viewHyp it) size seen);
+          rest = after;
+          left =
+            put-at-end gone g d (omega arith) ∙ ap (λ (r : List Departure). r ++ (d ∷ [])) (k .left) ∙ append-assoc (take g₀ gone₀) (leaving f (take i (view b .challengers))) (d ∷ [])
+            ∙ ap (λ (r : List Departure). take g₀ gone₀ ++ r)
+            (ap (λ (o : Option Cause). leaving f (take i (view b .challengers)) ++ leaveIf o (viewHyp it) []) e ∙ sym (leave-next f (view b .challengers) i (viewHyp z) (viewHyp it) size seen));
+          long = k .long;
+          space = length-set gone g d ∙ k .space;
+          few = k .few;
+          fine = k .fine;
+          steady = k .steady;
+        }
+
+-- a bank with another count
+abbrev pub counted : TimingBank → ℕ → TimingBank
+counted c w = record {
+  width = c .width;
+  switching = c .switching;
+  «primary_score» = c .«primary_score»;
+  «primary_gap_score» = c .«primary_gap_score»;
+  challengers = c .challengers;
+  «challengers_len» = w;
+  streak = c .streak;
+  «streak_len» = c .«streak_len»;
+  «streak_gaps» = c .«streak_gaps»;
+  «streak_gaps_len» = c .«streak_gaps_len»;
+  «has_side» = c .«has_side»;
+  «streak_side» = c .«streak_side»;
+  «has_last_gap» = c .«has_last_gap»;
+  «last_gap» = c .«last_gap»;
+  «marks_seen» = c .«marks_seen»;
+  «gaps_seen» = c .«gaps_seen»;
+  «has_pending» = c .«has_pending»;
+  pending = c .pending;
+  log = c .log;
+  «log_len» = c .«log_len»;
+  started = c .started;
+}
+
+module _ (lo hi : Float) (t : Changed) (c : TimingBank) (gone : List Departure) (g w i : ℕ)
+  (k : Sifting (causeAt standard (t .bank .«primary_score») lo hi) (t .bank) (t .left) (t .«left_len») c gone g w i) (h : t .bank .«challengers_len» ≤ i) where
+  abbrev b : TimingBank
+  b = t .bank
+
+  abbrev f : Hyp → Option Cause
+  f = causeAt standard (b .«primary_score») lo hi
+
+  whole : take i (view b .challengers) ≡ view b .challengers
+  whole = let e = view-length viewHyp (b .«challengers_len») (b .challengers) (room (b .«challengers_len») (b .challengers) (k .steady .crew)) in take-all i (view b .challengers) (omega arith)
+
+  abbrev out : Changed
+  out = record { bank = counted c w; left = gone; «left_len» = g }
+
+  pub sift-told : told out ≡ andThen (told t) (prunedAt standard lo hi)
+  unfolding prunedAt
+  sift-told =
+      ap (λ (x : TimingBank). told (record { bank = counted x w; left = gone; «left_len» = g })) (k .same)
+      ∙ ap (λ (l : List Hyp). record { bank = withChallengers (view b) l; left = take g gone }) (k .front ∙ ap (staying f) whole)
+      ∙ ap (λ (l : List Departure). record { bank = withChallengers (view b) (staying f (view b .challengers)); left = l }) (k .left ∙ ap (λ (l : List Hyp). take (t .«left_len») (t .left) ++ leaving f l) whole)
+
+  pub sift-steady : Steady (counted c w)
+  sift-steady =
+      let s = k .steady in
+      let n = s .crew .few in
+      let m = s .below in
+      let u = k .behind in
+      let v = k .upto in
+      subst (λ (x : TimingBank). Steady (counted x w)) (sym (k .same)) (record {
+        some = s .some;
+        wide = s .wide;
+        below = omega arith;
+        crew = record { few = omega arith; long = k .long; each = k .fine };
+        score = s .score;
+        gapScore = s .gapScore;
+        streaks = s .streaks;
+        lastGap = s .lastGap;
+        log = s .log;
+      })
+
+-- ---- a loop that notes all of them: the first i are noted
+module _ (n : ℕ) (l : List TimingHypothesis) where
+  pub record Noting (left : List Departure) (i : ℕ) : Type 0 where
+    pub upto : i ≤ n
+    pub space : length left ≡ 9
+    pub crew : Crew n l
+    pub is : take i left ≡ map goneCleared (take i (viewAll n l))
+
+  pub note-begins : (left : List Departure) → length left ≡ 9 → Crew n l → Noting left 0
+  note-begins left r w = record { upto = omega arith; space = r; crew = w; is = refl }
+
+  pub note-turns : (left : List Departure) (i : ℕ) (z : TimingHypothesis) → i < n → Noting left i → Noting (set left i (record { serial = getD l i z .serial; cause = Cleared })) (i + 1)
+  note-turns left i z h k =
+      let w = k .crew in
+      let m = w .few in
+      let r = k .space in
+      let d : Departure = record { serial = getD l i z .serial; cause = Cleared } in
+      let e = view-length viewHyp n l (room n l w) in
+      record {
+        upto = omega arith;
+        space = length-set left i d ∙ r;
+        crew = w;
+        is =
+          put-at-end left i d (omega arith) ∙ ap (λ (x : List Departure). x ++ (d ∷ [])) (k .is)
+          ∙ ap (λ (y : Hyp). map goneCleared (take i (viewAll n l)) ++ (goneCleared y ∷ [])) (sym (view-at viewHyp n l i z h))
+          ∙ sym (map-snoc goneCleared (take i (viewAll n l)) (getD (viewAll n l) i (viewHyp z)))
+          ∙ ap (map goneCleared) (sym (next (viewAll n l) i (viewHyp z) (omega arith)));
+      }
+
+  pub note-ends : (left : List Departure) (i : ℕ) → n ≤ i → Noting left i → (take n left ≡ map goneCleared (viewAll n l)) × (length left ≡ 9)
+  note-ends left i h k =
+      let u = k .upto in
+      let e : n ≡ i = omega arith in
+      let v = view-length viewHyp n l (room n l (k .crew)) in
+      (ap (λ (j : ℕ). take j left) e ∙ k .is ∙ ap (map goneCleared) (take-all i (viewAll n l) (omega arith)), k .space)

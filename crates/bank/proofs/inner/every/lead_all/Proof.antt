@@ -1,0 +1,74 @@
+use borrow.Author.Needs.{needs}
+use mathlib.Core.Path.{_≡_, refl, ap, sym, _∙_}
+use Rattle.ranges.specs.Settings.{standard}
+use Rattle.bank.proofs.Stock.{Mapping, map-begins, map-member, map-turns, map-ends, room, member}
+use Prim.Native.Nat.{ℕ, _-_}
+use Rattle.bank_model.specs.Steps.{marked, gapped, led, leastFrom, highestFrom, eligible, qualifies, anyTwin, greatestUnit, lesser, higher}
+use Rattle.bank.proofs.inner.every.lead_all.Statement.{statement}
+use Rattle.bank.proofs.inner.every.lead_all.Tie as tie
+use Rattle.bank.proofs.inner.every.lead_all.Reads as reads
+use Rattle.bank.proofs.inner.every.lead_all.Lts as lts
+use Rattle.bank.proofs.inner.each.lead_one.Reads as lead-one-reads
+
+abbrev Inv-loop : tie.InvT-loop
+Inv-loop c₀ n score i₀ c i = Mapping (led standard score) c₀ c i
+
+abbrev μ-loop : tie.MeasureT-loop
+μ-loop c₀ n score i₀ c i = n - i
+
+-- src/inner/every.rt:63:5
+loop-holds : tie.Need-loop-holds Inv-loop μ-loop
+loop-holds c = map-begins _ _ (c .pre)
+
+-- src/inner/every.rt:64:17
+mul-h : tie.Need-mul-h Inv-loop μ-loop
+mul-h c = search needs
+
+-- src/inner/every.rt:64:17
+element-copy-out-h : tie.Need-element-copy-out-h Inv-loop μ-loop
+element-copy-out-h c = search needs
+
+-- src/inner/every.rt:65:13
+lead-one-requires : tie.Need-lead-one-requires Inv-loop μ-loop
+lead-one-requires c κs = map-member _ _ _ _ _ (c .before .loop-test .taken) (c .before .before .loop .inv)
+
+-- src/inner/every.rt:66:9
+mul-g : tie.Need-mul-g Inv-loop μ-loop
+mul-g c = search needs
+
+-- src/inner/every.rt:66:9
+element-set-from-g : tie.Need-element-set-from-g Inv-loop μ-loop
+element-set-from-g c = search needs
+
+-- src/inner/every.rt:67:9
+add-i : tie.Need-add-i Inv-loop μ-loop
+add-i c = search needs
+
+-- src/inner/every.rt:63:5
+loop-less : tie.Need-loop-less Inv-loop μ-loop
+loop-less c = search needs
+
+-- src/inner/every.rt:63:5
+loop-again : tie.Need-loop-again Inv-loop μ-loop
+loop-again c = map-turns _ _ _ _ _ _ (c .before .before .loop-test .taken) (c .before .before .before .loop .inv) (c .lead-one .ensures)
+
+-- src/inner/every.rt:55:1
+returns : tie.Need-returns Inv-loop μ-loop
+returns c = map-ends _ _ _ _ (c .loop-test .left) (c .before .loop .inv)
+
+pub lead-all-spec : {M : Type 1} → statement M
+lead-all-spec =
+    tie.close
+    (tie.spec
+    Inv-loop
+    μ-loop
+    loop-holds
+    mul-h
+    element-copy-out-h
+    lead-one-requires
+    mul-g
+    element-set-from-g
+    add-i
+    loop-less
+    loop-again
+    returns)

@@ -1,0 +1,169 @@
+-- What the parts of the code ask of a bank: soundness, part by part. Definitions only.
+use mathlib.Core.Path.{_≡_}
+use mathlib.Core.Bool.{Bool, true, false}
+use mathlib.Core.Option.{Option, none, some}
+use mathlib.Core.List.{List, [], _∷_}
+use Prim.Native.Nat.{ℕ, _≤_, _<_}
+use lib.Dec.{T}
+use lib.ListN.{length, take}
+use lib.Ieee.{Float}
+use Rattle.ranges.specs.Settings.{standard}
+use Rattle.ranges.specs.Limits.{nought, scoreMin, durationMin, durationMax}
+use Rattle.ranges.specs.Interval.{In, AllIn}
+use Rattle.tracker.specs.Sound as Tracking
+use Rattle.bank_model.specs.declared.SwitchRecord.{SwitchRecord}
+use Rattle.bank_model.specs.Scores.{lnDit, lnDah}
+use Rattle.bank.specs.declared.TimingHypothesis.{TimingHypothesis}
+use Rattle.bank.specs.declared.TimingBank.{TimingBank}
+use Rattle.bank_model.specs.Model.{Hyp, Bank, Told, withEvidence}
+use Rattle.bank.specs.declared.Changed.{Changed}
+use Rattle.bank.specs.View.{viewHyp, viewAll, told}
+
+-- "the widest bank"
+abbrev pub widest : ℕ
+widest = 8
+
+-- P holds of each
+unfoldable pub All : {A : Type 0} → (A → Type 0) → List A → Type 0
+All P [] = Unit {0}
+All P (x ∷ xs) = P x × All P xs
+
+-- a challenger: a sound tracker that is ready, its logarithms, scores from -30 to 0
+pub record Fit (h : TimingHypothesis) : Type 0 where
+  pub tracker : T (Tracking.sound standard (h .tracker))
+  pub ready : h .tracker .pair .ready ≡ true
+  pub lnLo : h .«ln_lo» ≡ lnDit (viewHyp h .tracker)
+  pub lnHi : h .«ln_hi» ≡ lnDah (viewHyp h .tracker)
+  pub score : In scoreMin nought (h .score)
+  pub gapScore : In scoreMin nought (h .«gap_score»)
+
+-- the first n places of an array of challengers
+pub record Crew (n : ℕ) (l : List TimingHypothesis) : Type 0 where
+  pub few : n ≤ widest
+  pub long : length l ≡ widest
+  pub each : All Fit (take n l)
+
+-- there is none
+abbrev pub isNone : {A : Type 0} → Option A → Bool
+isNone none = true
+isNone (some x) = false
+
+-- a bank with other challengers in its array
+abbrev pub restocked : TimingBank → List TimingHypothesis → TimingBank
+restocked b l = record {
+  width = b .width;
+  switching = b .switching;
+  «primary_score» = b .«primary_score»;
+  «primary_gap_score» = b .«primary_gap_score»;
+  challengers = l;
+  «challengers_len» = b .«challengers_len»;
+  streak = b .streak;
+  «streak_len» = b .«streak_len»;
+  «streak_gaps» = b .«streak_gaps»;
+  «streak_gaps_len» = b .«streak_gaps_len»;
+  «has_side» = b .«has_side»;
+  «streak_side» = b .«streak_side»;
+  «has_last_gap» = b .«has_last_gap»;
+  «last_gap» = b .«last_gap»;
+  «marks_seen» = b .«marks_seen»;
+  «gaps_seen» = b .«gaps_seen»;
+  «has_pending» = b .«has_pending»;
+  pending = b .pending;
+  log = b .log;
+  «log_len» = b .«log_len»;
+  started = b .started;
+}
+
+-- r is b with other challengers, as many, that mean l
+pub record Restocked (b r : TimingBank) (l : List Hyp) : Type 0 where
+  pub same : r ≡ restocked b (r .challengers)
+  pub is : viewAll (b .«challengers_len») (r .challengers) ≡ l
+  pub crew : Crew (b .«challengers_len») (r .challengers)
+
+-- the streak and its gaps
+pub record Streaks (streak : List Float) (n : ℕ) (gaps : List Float) (m : ℕ) : Type 0 where
+  pub few : n ≤ 4
+  pub paired : m ≤ n
+  pub long : length streak ≡ 4
+  pub gapsLong : length gaps ≡ 4
+  pub marks : AllIn durationMin durationMax (take n streak)
+  pub between : AllIn durationMin durationMax (take m gaps)
+
+-- a gap, where there is one
+abbrev pub GapIn : Bool → Float → Type 0
+GapIn has gap = has ≡ true → In durationMin durationMax gap
+
+-- a switch that was made, or would have been
+pub record Recorded (s : SwitchRecord) : Type 0 where
+  pub from : In durationMin durationMax (s .«from_dit_ms»)
+  pub to : In durationMin durationMax (s .«to_dit_ms»)
+
+pub record Log (l : List SwitchRecord) (n : ℕ) : Type 0 where
+  pub few : n ≤ 16
+  pub long : length l ≡ 16
+  pub each : All Recorded (take n l)
+
+-- a bank with another log
+abbrev pub relogged : TimingBank → List SwitchRecord → ℕ → TimingBank
+relogged b l n = record {
+  width = b .width;
+  switching = b .switching;
+  «primary_score» = b .«primary_score»;
+  «primary_gap_score» = b .«primary_gap_score»;
+  challengers = b .challengers;
+  «challengers_len» = b .«challengers_len»;
+  streak = b .streak;
+  «streak_len» = b .«streak_len»;
+  «streak_gaps» = b .«streak_gaps»;
+  «streak_gaps_len» = b .«streak_gaps_len»;
+  «has_side» = b .«has_side»;
+  «streak_side» = b .«streak_side»;
+  «has_last_gap» = b .«has_last_gap»;
+  «last_gap» = b .«last_gap»;
+  «marks_seen» = b .«marks_seen»;
+  «gaps_seen» = b .«gaps_seen»;
+  «has_pending» = b .«has_pending»;
+  pending = b .pending;
+  log = l;
+  «log_len» = n;
+  started = b .started;
+}
+
+-- r is b with another log, that means l
+pub record Logging (b r : TimingBank) (l : List SwitchRecord) : Type 0 where
+  pub same : r ≡ relogged b (r .log) (r .«log_len»)
+  pub is : take (r .«log_len») (r .log) ≡ l
+  pub log : Log (r .log) (r .«log_len»)
+
+-- what a sound bank has, but for its choice
+pub record Steady (b : TimingBank) : Type 0 where
+  pub some : 1 ≤ b .width
+  pub wide : b .width ≤ widest
+  pub below : b .«challengers_len» < b .width
+  pub crew : Crew (b .«challengers_len») (b .challengers)
+  pub score : In scoreMin nought (b .«primary_score»)
+  pub gapScore : In scoreMin nought (b .«primary_gap_score»)
+  pub streaks : Streaks (b .streak) (b .«streak_len») (b .«streak_gaps») (b .«streak_gaps_len»)
+  pub lastGap : GapIn (b .«has_last_gap») (b .«last_gap»)
+  pub log : Log (b .log) (b .«log_len»)
+
+-- what a sound bank has
+pub record Sturdy (b : TimingBank) : Type 0 where
+  pub steady : Steady b
+  pub pending : b .«has_pending» ≡ true → b .pending < b .«challengers_len»
+
+-- a bank and those that left it, at most one, as m says
+pub record Came (r : Changed) (m : Told) : Type 0 where
+  pub is : told r ≡ m
+  pub sturdy : Sturdy (r .bank)
+  pub few : r .«left_len» ≤ 1
+  pub room : length (r .left) ≡ 9
+
+-- a bank with another streak, on a side
+abbrev pub withStreak : Bank → Bool → List Float → List Float → Bank
+withStreak b side marks gaps = withEvidence b (record { streak = marks; gaps = gaps; side = some side; last-gap = b .evidence .last-gap })
+
+-- refusal 2 does not hold
+pub record Countable (b : TimingBank) : Type 0 where
+  pub marks : b .«marks_seen» < 4294967295
+  pub gaps : b .«gaps_seen» < 4294967295

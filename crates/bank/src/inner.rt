@@ -1,0 +1,11 @@
+// What the calls do, for banks that are sound: each function asks what it needs.
+pub mod among;
+pub mod clear;
+pub mod each;
+pub mod every;
+pub mod gap;
+pub mod leave;
+pub mod mark;
+pub mod qualify;
+pub mod spawn;
+pub mod streak;

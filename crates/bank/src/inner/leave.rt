@@ -1,0 +1,96 @@
+// Who leaves: `prune`, and what a clear tells.
+use crate::Changed;
+use crate::TimingBank;
+use crate::inner::each::is_kept;
+use crate::inner::each::why;
+use bank_model::Cause;
+use bank_model::Departure;
+ghost use mathlib.Core.Path.{_≡_};
+ghost use mathlib.Core.List.{map};
+ghost use Prim.Native.Nat.{_≤_};
+ghost use lib.ListN.{length, take};
+ghost use Rattle.ranges.specs.Settings.{standard};
+ghost use Rattle.bank_model.specs.Model.{stay, andThen};
+ghost use Rattle.bank_model.specs.Steps.{prunedAt, goneCleared};
+ghost use Rattle.bank.specs.View.{view, told};
+ghost use Rattle.bank.specs.Parts.{Crew, Steady};
+
+// No one leaves.
+pub(crate) fn nobody() -> [Departure; 9]
+    ensures { λ r. ⌜ length r ≡ 9 ⌝ }
+{
+    let d = Departure {
+        serial: 0,
+        cause: Cause::Cleared,
+    };
+    [d; 9]
+}
+
+// A bank that no one left.
+pub(crate) fn unchanged(b: TimingBank) -> Changed
+    ensures { λ r. ⌜ ((r .bank ≡ b) × (r .«left_len» ≡ 0)) × (length (r .left) ≡ 9) ⌝ }
+{
+    let left = nobody();
+    Changed {
+        bank: b,
+        left,
+        left_len: 0,
+    }
+}
+
+// Twins, then the outscored and the aged that nothing protects, leave a bank whose primary has the logarithms lo and hi.
+pub(crate) fn prune(t: Changed, lo: f32, hi: f32) -> Changed
+    requires { ⌜ Steady (t .bank) ⌝ }
+    requires { ⌜ (t .«left_len» ≤ 1) × (length (t .left) ≡ 9) ⌝ }
+    ensures { λ r. ⌜ (told r ≡ andThen (told t) (prunedAt standard lo hi)) × Steady (r .bank) ⌝ }
+{
+    let mut c = t.bank;
+    let mut left = t.left;
+    let mut g = t.left_len;
+    let n = c.challengers_len;
+    let score = c.primary_score;
+    let mut w: usize = 0;
+    let mut i: usize = 0;
+    while i < n {
+        let h = c.challengers[i];
+        i += 1;
+        if is_kept(h, lo, hi, score) {
+            c.challengers[w] = h;
+            w += 1;
+        } else {
+            let cause = why(h, lo, hi, score);
+            let d = Departure {
+                serial: h.serial,
+                cause,
+            };
+            left[g] = d;
+            g += 1;
+        }
+    }
+    c.challengers_len = w;
+    Changed {
+        bank: c,
+        left,
+        left_len: g,
+    }
+}
+
+// All challengers, as those that a clear sends away.
+pub(crate) fn all_cleared(b: TimingBank) -> [Departure; 9]
+    requires { ⌜ Crew (b .«challengers_len») (b .challengers) ⌝ }
+    ensures { λ r. ⌜ (take (b .«challengers_len») r ≡ map goneCleared (view b .challengers)) × (length r ≡ 9) ⌝ }
+{
+    let mut left = nobody();
+    let n = b.challengers_len;
+    let mut i: usize = 0;
+    while i < n {
+        let h = b.challengers[i];
+        let d = Departure {
+            serial: h.serial,
+            cause: Cause::Cleared,
+        };
+        left[i] = d;
+        i += 1;
+    }
+    left
+}

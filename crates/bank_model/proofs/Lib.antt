@@ -1,0 +1,4 @@
+pub mod Tests
+pub mod Scoring
+pub mod Ready
+pub mod Places

@@ -1,0 +1,119 @@
+-- A ready tracker stays ready, whatever it hears; and logarithms of centroids and of dit estimates have an argument above zero. Assumes nothing.
+use mathlib.Core.Path.{_≡_, refl, sym, ap, _∙_, subst}
+use mathlib.Core.Bool.{Bool, true, false, not, cond, _&&_}
+use mathlib.Core.List.{List}
+use mathlib.Core.Option.{Option, none, some}
+use Prim.Native.Nat.{ℕ}
+use lib.Dec.{T}
+use lib.Ieee.{Float, binary32, mul, lt, isNan, ofBits}
+use lib.Ieee.Positive.{positive, positive-finite, between}
+use Rattle.order.specs.Order.{larger}
+use Rattle.ranges.specs.Settings.{Settings, standard}
+use Rattle.ranges.specs.Limits.{dahMin, dahMax}
+use Rattle.ranges.specs.Interval.{In}
+use Rattle.ranges.specs.Mean.{meanOf}
+use Rattle.ranges.proofs.Standard.{dit-positive, estimate-in, standard-good, standard-held}
+use Rattle.ranges.specs.Average.{average}
+use Rattle.tracker.specs.Constants.{two}
+use Rattle.tracker.specs.Model.{Pair, Tracker, view, withCentroids, withPair}
+use Rattle.tracker.specs.Lock.{parts, bimodal, asDahs, asDits, unimodal, locked, initialized, constrained, anchorsDit, anchorsDah, boundary, moved, learnt, observed}
+use Rattle.tracker.specs.Steps.{bound, uniform, drifts, drifted, fragment, recoveredBy, checked, followed, fresh, fromMarks, otherPair, hasOther, threeToOne, onMark, settled, estimate, ditEstimate, elementGap, onGap}
+use Rattle.tracker.specs.declared.SpeedTracker.{SpeedTracker}
+use Rattle.tracker.specs.Sound.{positiveOr, sound}
+use Rattle.tracker.proofs.Soundness.{sound-fine, ready-in}
+use Rattle.tracker.proofs.Keeping.{by-cond, on-true, gaps-pair}
+use Rattle.bank_model.specs.Constants.{milli}
+
+abbrev Up : Pair → Type 0
+Up p = p .ready ≡ true
+
+locked-ready : (k : Settings) (s : List Float) → Up (locked k s)
+unfolding locked
+locked-ready k s = by-cond Up (parts s) (bimodal s) (unimodal k (meanOf s)) (λ e. refl) (λ e. by-cond Up (lt (k .ditMax) (meanOf s)) (asDahs (meanOf s)) (asDits (meanOf s)) (λ e. refl) (λ e. refl))
+
+constrained-ready : (k : Settings) (h : Option Float) (p : Pair) → Up p → Up (constrained k h p)
+unfolding constrained
+constrained-ready k h p u = u
+
+learnt-ready : (k : Settings) (p : Pair) (v : Float) → Up p → Up (learnt k p v)
+unfolding learnt
+learnt-ready k p v u = by-cond Up (anchorsDit p v) _ _ (λ e. u) (λ e. by-cond Up (anchorsDah p v) _ _ (λ e. u) (λ e. by-cond Up (lt v (boundary p)) (withCentroids p (average binary32 (k .weight) (p .lo) v) (p .hi)) (withCentroids p (p .lo) (average binary32 (k .weight) (p .hi) v)) (λ e. u) (λ e. u)))
+
+checked-ready : (k : Settings) (t : Tracker) → Up (t .pair) → Up (checked k t .pair)
+unfolding checked
+checked-ready k t u =
+    by-cond (λ (m : Tracker). Up (m .pair)) (uniform (t .ring)) _ _
+    (λ e. by-cond (λ (m : Tracker). Up (m .pair)) (drifts (t .ring)) _ _ (λ e. constrained-ready k _ _ (locked-ready k _)) (λ e. by-cond (λ (m : Tracker). Up (m .pair)) (fragment t) _ _ (λ e. constrained-ready k _ _ (locked-ready k _)) (λ e. u)))
+    (λ e. u)
+
+pub mark-ready : (k : Settings) (t : Tracker) (d : Float) → t .pair .ready ≡ true → onMark k t d .pair .ready ≡ true
+unfolding onMark
+mark-ready k t d u =
+    on-true (λ (m : Tracker). Up (m .pair)) (t .pair .ready) _ _ u
+    (checked-ready k _ (constrained-ready k _ _ (on-true Up (t .pair .ready) _ _ u (learnt-ready k (t .pair) d u))))
+
+pub settled-ready : (t : Tracker) → t .pair .ready ≡ true → settled t .pair .ready ≡ true
+unfolding settled
+settled-ready t u = u
+
+pub gap-ready : (k : Settings) (t : Tracker) (g : Float) → t .pair .ready ≡ true → elementGap k t g .pair .ready ≡ true
+unfolding onGap
+gap-ready k t g u = by-cond (λ (m : Tracker). Up (m .pair)) (lt g (mul binary32 two (ditEstimate k t))) (onGap k t g) t (λ e. u) (λ e. u)
+
+-- an element gap moves no centroid
+pub gap-pair : (k : Settings) (t : Tracker) (g : Float) → elementGap k t g .pair ≡ t .pair
+unfolding onGap
+gap-pair k t g = by-cond (λ (m : Tracker). m .pair ≡ t .pair) (lt g (mul binary32 two (ditEstimate k t))) (onGap k t g) t (λ e. refl) (λ e. refl)
+
+-- ---- arguments of logarithms
+milli-positive : T (positive milli)
+unfolding ofBits
+milli-positive = tt
+
+pub larger-positive : (v : Float) → T (positive v) → T (positive (larger v milli))
+larger-positive v p = by-cond (λ (x : Float). T (positive x)) (isNan v) _ _ (λ e. milli-positive) (λ e. by-cond (λ (x : Float). T (positive x)) (lt v milli) _ _ (λ e. milli-positive) (λ e. p))
+
+dah-positive : (d : Float) → In dahMin dahMax d → T (positive d)
+unfolding ofBits
+dah-positive d i = between dahMin d dahMax tt tt (i .0) (i .1)
+
+abbrev DitIn : Float → Type 0
+DitIn x = In (standard .ditMin) (standard .ditMax) x
+
+gap-finite : (lo : Float) (o : Option Float) → DitIn lo → T (positiveOr o) → DitIn (estimate standard lo o)
+gap-finite lo none i p = i
+gap-finite lo (some g) i p = estimate-in lo g i (positive-finite g p)
+
+-- a ready tracker's dit estimate is a dit
+pub estimate-dit : (t : SpeedTracker) → T (sound standard t) → t .pair .ready ≡ true → DitIn (ditEstimate standard (view t))
+estimate-dit t s u = let f = sound-fine standard t s in gap-finite (t .pair .lo) (view t .egap) (ready-in standard (view t .pair) u (f .pair) .0) (f .egap)
+
+module _ (t : SpeedTracker) (s : T (sound standard t)) (u : t .pair .ready ≡ true) where
+  pub estimate-positive : T (positive (larger (ditEstimate standard (view t)) milli))
+  estimate-positive = larger-positive _ (dit-positive _ (estimate-dit t s u))
+
+  pub dit-log : T (positive (larger (t .pair .lo) milli))
+  dit-log = larger-positive _ (dit-positive _ (ready-in standard (view t .pair) u (sound-fine standard t s .pair) .0))
+
+  pub dah-log : T (positive (larger (t .pair .hi) milli))
+  dah-log = larger-positive _ (dah-positive _ (ready-in standard (view t .pair) u (sound-fine standard t s .pair) .1))
+
+-- ---- trackers that a bank makes
+pub from-ready : (l g : List Float) → fromMarks standard l g .pair .ready ≡ true
+unfolding fromMarks
+from-ready l g = ap (λ (p : Pair). p .ready) (gaps-pair standard standard-good standard-held (bound standard (withPair fresh (initialized standard l))) g) ∙ constrained-ready standard _ _ (locked-ready standard _)
+
+other-up : (p : Pair) → Up (otherPair p)
+other-up p = by-cond Up (p .placeholderIsLo) _ _ (λ e. refl) (λ e. refl)
+
+abbrev some-is : {A : Type 0} (d : A) → Option A → A
+some-is d none = d
+some-is d (some x) = x
+
+turned-by : (b : Bool) (x y : Tracker) → x .pair .ready ≡ true → cond b (some x) none ≡ some y → y .pair .ready ≡ true
+turned-by true x y r e = subst (λ (z : Tracker). z .pair .ready ≡ true) (ap (some-is x) e) r
+turned-by false x y r e = cc
+
+pub turned-ready : (k : Settings) (m t : Tracker) → threeToOne k m ≡ some t → t .pair .ready ≡ true
+unfolding threeToOne
+turned-ready k m t e = turned-by (hasOther k (m .pair)) _ t (constrained-ready k _ _ (other-up (m .pair))) e

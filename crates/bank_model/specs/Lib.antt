@@ -1,0 +1,4 @@
+pub mod Constants
+pub mod Model
+pub mod Scores
+pub mod Steps
