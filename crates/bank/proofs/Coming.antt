@@ -27,6 +27,11 @@ use Rattle.bank.specs.Parts.{All, widest, Fit, Crew, Sturdy, Came}
 use Rattle.bank.proofs.Lists.{all-append, put-at-end, map-set, map-snoc, view-length, view-at}
 use Rattle.bank.proofs.Stock.{room, crew-set}
 
+pub elem : {A : Type 0} (l : List A) (i : ℕ) (z : A) → i < length l → getElem? l i ≡ some (getD l i z)
+elem [] i z h = absurd (omega arith)
+elem (x ∷ xs) zero z h = refl
+elem (x ∷ xs) (suc i) z h = elem xs i z (omega arith)
+
 abbrev Same : TimingBank → Changed → Type 0
 Same b r = ((r .bank ≡ b) × (r .«left_len» ≡ 0)) × (length (r .left) ≡ 9)
 
@@ -93,11 +98,6 @@ module _ (b : TimingBank) (s : Sturdy b) where
         few = omega arith;
         room = e .1;
       }
-
-  elem : {A : Type 0} (l : List A) (i : ℕ) (z : A) → i < length l → getElem? l i ≡ some (getD l i z)
-  elem [] i z h = absurd (omega arith)
-  elem (x ∷ xs) zero z h = refl
-  elem (x ∷ xs) (suc i) z h = elem xs i z (omega arith)
 
   pub replace-came : (h z : TimingHypothesis) (i m : ℕ) (q : Float) (left : List Departure) → Fit h → m ≡ following (b .started) → i < b .«challengers_len» → length left ≡ 9
       → Came (record { bank = enrolled b (set (b .challengers) i h) (b .«challengers_len») m; left = set left 0 (record { serial = getD (b .challengers) i z .serial; cause = Replaced }); «left_len» = 1 }) (replacing (view b) (viewHyp h) (place (Found i q)))

@@ -9,3 +9,4 @@ pub mod mark;
 pub mod qualify;
 pub mod spawn;
 pub mod streak;
+pub mod switch;
