@@ -9,3 +9,4 @@ pub mod Streaking
 pub mod Hearing
 pub mod Clearing
 pub mod Switched
+pub mod Reading

@@ -178,11 +178,11 @@ module _ (b : TimingBank) (s : Sturdy b) (i : ℕ) (lt : i < b .«challengers_le
       let w = it-fit in
       record {
         is =
-          ap (λ (x : TimingBank). record { bank = view (Out x f); primary = Tracked.view q; serial = it .serial; switched = true }) (k .same)
-          ∙ ap (λ (l : List Hyp). record { bank = mOut l (take (c .«log_len») (c .log)); primary = Tracked.view q; serial = it .serial; switched = true }) (placed f ∙ ap (set (view b .challengers) i) (ef .0))
-          ∙ ap (λ (l : List SwitchRecord). record { bank = mOut (set (view b .challengers) i (formerly (view b) (Tracked.view p) serial)) l; primary = Tracked.view q; serial = it .serial; switched = true }) (k .is)
-          ∙ ap (λ (m : Tracker). record { bank = mOut (set (view b .challengers) i (formerly (view b) (Tracked.view p) serial)) (logged (view b .log) (Rec p true)); primary = m; serial = it .serial; switched = true }) (eq .0)
-          ∙ ap (taking exchanged (view b) (Tracked.view p) serial i) (sym found);
+            ap (λ (x : TimingBank). record { bank = view (Out x f); primary = Tracked.view q; serial = it .serial; switched = true }) (k .same)
+            ∙ ap (λ (l : List Hyp). record { bank = mOut l (take (c .«log_len») (c .log)); primary = Tracked.view q; serial = it .serial; switched = true }) (placed f ∙ ap (set (view b .challengers) i) (ef .0))
+            ∙ ap (λ (l : List SwitchRecord). record { bank = mOut (set (view b .challengers) i (formerly (view b) (Tracked.view p) serial)) l; primary = Tracked.view q; serial = it .serial; switched = true }) (k .is)
+            ∙ ap (λ (m : Tracker). record { bank = mOut (set (view b .challengers) i (formerly (view b) (Tracked.view p) serial)) (logged (view b .log) (Rec p true)); primary = m; serial = it .serial; switched = true }) (eq .0)
+            ∙ ap (taking exchanged (view b) (Tracked.view p) serial i) (sym found);
         sturdy = subst (λ (x : TimingBank). Sturdy (Out x f)) (sym (k .same)) (record {
           steady = record {
             some = t .some;
@@ -209,28 +209,26 @@ module _ (b : TimingBank) (s : Sturdy b) (i : ℕ) (lt : i < b .«challengers_le
 
   pub again : (p : SpeedTracker) → it .reported ≡ true → (view (noted b (b .challengers)) ≡ noting observed (view b) (Tracked.view p) i (getElem? (view b .challengers) i)) × Sturdy (noted b (b .challengers))
   again p e =
-      let t = s .steady in
-      (
+      let t = s .steady in (
         noted-is (Tracked.view p) true e,
         record {
           steady = record { some = t .some; wide = t .wide; below = t .below; crew = t .crew; score = t .score; gapScore = t .gapScore; streaks = t .streaks; lastGap = t .lastGap; log = t .log };
           pending = λ e. absurd (false≢true e);
-        }
+        },
       )
 
   pub note-taken : (p : SpeedTracker) (g : TimingHypothesis) (c : TimingBank) → it .reported ≡ false → Logging b c (logged (view b .log) (Rec p false)) → (viewHyp g ≡ reporting (viewHyp it)) × Fit g
       → (view (noted c (set (c .challengers) i g)) ≡ noting observed (view b) (Tracked.view p) i (getElem? (view b .challengers) i)) × Sturdy (noted c (set (c .challengers) i g))
   note-taken p g c e k eg =
-      let t = s .steady in
-      (
+      let t = s .steady in (
         ap (λ (x : TimingBank). view (noted x (set (x .challengers) i g))) (k .same)
-        ∙ ap (λ (l : List Hyp). unpended (view b) l (take (c .«log_len») (c .log))) (placed g ∙ ap (set (view b .challengers) i) (eg .0))
-        ∙ ap (unpended (view b) (set (view b .challengers) i (reporting (viewHyp it)))) (k .is)
-        ∙ noted-is (Tracked.view p) false e,
+            ∙ ap (λ (l : List Hyp). unpended (view b) l (take (c .«log_len») (c .log))) (placed g ∙ ap (set (view b .challengers) i) (eg .0))
+            ∙ ap (unpended (view b) (set (view b .challengers) i (reporting (viewHyp it)))) (k .is)
+            ∙ noted-is (Tracked.view p) false e,
         subst (λ (x : TimingBank). Sturdy (noted x (set (x .challengers) i g))) (sym (k .same)) (record {
           steady = record { some = t .some; wide = t .wide; below = t .below; crew = crew-set len (b .challengers) i g (eg .1) (t .crew); score = t .score; gapScore = t .gapScore; streaks = t .streaks; lastGap = t .lastGap; log = k .log };
           pending = λ e. absurd (false≢true e);
-        })
+        }),
       )
 
 -- ---- the call

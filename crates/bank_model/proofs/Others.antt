@@ -5,7 +5,8 @@ use mathlib.Core.List.{List, [], _∷_}
 use Prim.Native.Nat.{ℕ, zero, suc, _+_, _-_, _≤_, _<_}
 use native.Mathlib.Numerals.{add-one}
 use native.Mathlib.Omega.{arith}
-use lib.ListN.{length, take, drop, getD, drop-of-length-le}
+use lib.ListN.{length, take, drop, getD, set, drop-of-length-le}
+use Rattle.tracker.proofs.Rivalling.{Filling, fill-begins, fill-turns, fill-ends}
 use lib.Seq.{drop-cons}
 use lib.Ieee.{Float, nan}
 use Rattle.order.specs.Order.{totalLess}
@@ -88,3 +89,39 @@ pub least-place-below : (l : List Float) → 0 < length l → leastPlace l < len
 unfolding leastPlace
 least-place-below [] h = absurd (omega arith)
 least-place-below (x ∷ xs) h = let k = least-below 1 0 x xs (omega arith) in omega arith
+
+-- ---- all but the k-th, copied: the first j are
+pub record Copying (l out : List Float) (k j : ℕ) : Type 0 where
+  pub fill : Filling (without k l) out j
+  pub few : length l ≤ 12
+  pub held : k < length l
+
+pub copy-begins : (l out : List Float) (k : ℕ) → length out ≡ 12 → length l ≤ 12 → k < length l → Copying l out k 0
+copy-begins l out k r w h = record { fill = fill-begins (without k l) out r; few = w; held = h }
+
+pub copy-turns : (l out : List Float) (k j : ℕ) (x : Float) → j < length l - 1 → x ≡ getD (without k l) j nan → Copying l out k j → Copying l (set out j x) k (j + 1)
+copy-turns l out k j x h e c =
+    let n = without-length k l (c .held) in
+    let f = c .few in
+    record { fill = subst (λ (y : Float). Filling (without k l) (set out j y) (j + 1)) (sym e) (fill-turns (without k l) out j (omega arith) (omega arith) (c .fill)); few = f; held = c .held }
+
+pub copy-ends : (l out : List Float) (k j : ℕ) → length l - 1 ≤ j → Copying l out k j → take (length l - 1) out ≡ without k l
+copy-ends l out k j h c =
+    let n = without-length k l (c .held) in
+    ap (λ (m : ℕ). take m out) (sym n) ∙ fill-ends (without k l) out j (omega arith) (c .fill)
+
+-- ---- the marks without the first least, where there are three at least
+module _ (l rest : List Float) (k : ℕ) (e : k ≡ leastPlace l) (h : 3 ≤ length l) where
+  pub place-below : k < length l
+  place-below = subst (λ (n : ℕ). n < length l) (sym e) (least-place-below l (omega arith))
+
+  module _ (r : take (length l - 1) rest ≡ without k l) where
+    pub rest-length : length l - 1 ≡ length (take (length l - 1) rest)
+    rest-length = sym (ap length r ∙ without-length k l place-below)
+
+    pub rest-good : (lo hi : Float) → length l ≤ 12 → AllIn lo hi l → ((1 ≤ length (take (length l - 1) rest)) × (length (take (length l - 1) rest) ≤ 12)) × (AllIn lo hi (take (length l - 1) rest) × AllIn lo hi [])
+    unfolding AllIn
+    rest-good lo hi w a = let n = rest-length in ((omega arith, omega arith), (subst (AllIn lo hi) (sym r) (without-in lo hi k l a), tt))
+
+    pub rest-is : take (length l - 1) rest ≡ without (leastPlace l) l
+    rest-is = r ∙ ap (λ (n : ℕ). without n l) e
