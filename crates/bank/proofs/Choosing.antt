@@ -71,7 +71,7 @@ withPending b o = record {
 }
 
 module _ (b c : TimingBank) (s : Steady b) (k : Restocked b c (map (led standard (b .«primary_score»)) (view b .challengers))) (v : Best)
-  (e : v ≡ highestFrom (qualifies (c .«primary_gap_score»)) 0 Unfound (view c .challengers)) where
+    (e : v ≡ highestFrom (qualifies (c .«primary_gap_score»)) 0 Unfound (view c .challengers)) where
   abbrev after : Bank
   after = withChallengers (view b) (map (led standard (b .«primary_score»)) (view b .challengers))
 

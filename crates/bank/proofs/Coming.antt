@@ -27,6 +27,11 @@ use Rattle.bank.specs.Parts.{All, widest, Fit, Crew, Sturdy, Came}
 use Rattle.bank.proofs.Lists.{all-append, put-at-end, map-set, map-snoc, view-length, view-at}
 use Rattle.bank.proofs.Stock.{room, crew-set}
 
+pub elem : {A : Type 0} (l : List A) (i : ℕ) (z : A) → i < length l → getElem? l i ≡ some (getD l i z)
+elem [] i z h = absurd (omega arith)
+elem (x ∷ xs) zero z h = refl
+elem (x ∷ xs) (suc i) z h = elem xs i z (omega arith)
+
 abbrev Same : TimingBank → Changed → Type 0
 Same b r = ((r .bank ≡ b) × (r .«left_len» ≡ 0)) × (length (r .left) ≡ 9)
 
@@ -87,17 +92,12 @@ module _ (b : TimingBank) (s : Sturdy b) where
       let z = e .0 .1 in
       record {
         is =
-          unchanged-is _ r e ∙ ap (λ (x : ℕ). stay (view (enrolled b (set l n h) (n + 1) x))) em
-          ∙ ap (λ (x : List Hyp). stay (withNew (view b) x)) (ap (map viewHyp) at-end ∙ map-snoc viewHyp (take n l) h);
+            unchanged-is _ r e ∙ ap (λ (x : ℕ). stay (view (enrolled b (set l n h) (n + 1) x))) em
+            ∙ ap (λ (x : List Hyp). stay (withNew (view b) x)) (ap (map viewHyp) at-end ∙ map-snoc viewHyp (take n l) h);
         sturdy = subst Sturdy (sym (e .0 .0)) (enrolled-sturdy (set l n h) (n + 1) m crew lt (omega arith));
         few = omega arith;
         room = e .1;
       }
-
-  elem : {A : Type 0} (l : List A) (i : ℕ) (z : A) → i < length l → getElem? l i ≡ some (getD l i z)
-  elem [] i z h = absurd (omega arith)
-  elem (x ∷ xs) zero z h = refl
-  elem (x ∷ xs) (suc i) z h = elem xs i z (omega arith)
 
   pub replace-came : (h z : TimingHypothesis) (i m : ℕ) (q : Float) (left : List Departure) → Fit h → m ≡ following (b .started) → i < b .«challengers_len» → length left ≡ 9
       → Came (record { bank = enrolled b (set (b .challengers) i h) (b .«challengers_len») m; left = set left 0 (record { serial = getD (b .challengers) i z .serial; cause = Replaced }); «left_len» = 1 }) (replacing (view b) (viewHyp h) (place (Found i q)))
@@ -110,10 +110,10 @@ module _ (b : TimingBank) (s : Sturdy b) where
       let found : getElem? (viewAll n l) i ≡ some (viewHyp (getD l i z)) = elem (viewAll n l) i (viewHyp z) (omega arith) ∙ ap some (view-at viewHyp n l i z lt) in
       record {
         is =
-          ap (λ (x : ℕ). record { bank = view (enrolled b (set l i h) n x); left = take 1 (set left 0 d) }) em
-          ∙ ap (λ (x : List Hyp). record { bank = withNew (view b) x; left = take 1 (set left 0 d) }) (ap (map viewHyp) (take-set-lt n l i h lt) ∙ map-set viewHyp (take n l) i h)
-          ∙ ap (λ (x : List Departure). record { bank = withNew (view b) (set (viewAll n l) i (viewHyp h)); left = x }) (first left d r)
-          ∙ ap (replacedBy (view b) (viewHyp h) i) (sym found);
+            ap (λ (x : ℕ). record { bank = view (enrolled b (set l i h) n x); left = take 1 (set left 0 d) }) em
+            ∙ ap (λ (x : List Hyp). record { bank = withNew (view b) x; left = take 1 (set left 0 d) }) (ap (map viewHyp) (take-set-lt n l i h lt) ∙ map-set viewHyp (take n l) i h)
+            ∙ ap (λ (x : List Departure). record { bank = withNew (view b) (set (viewAll n l) i (viewHyp h)); left = x }) (first left d r)
+            ∙ ap (replacedBy (view b) (viewHyp h) i) (sym found);
         sturdy = enrolled-sturdy (set l i h) n m (crew-set n l i h f w) (s .steady .below) (omega arith);
         few = omega arith;
         room = length-set left 0 d ∙ r;

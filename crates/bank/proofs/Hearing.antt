@@ -78,13 +78,12 @@ module _ (b : TimingBank) (y : Sturdy b) where
   pub dropped : (view (heardBank b (b .«primary_score») (b .«primary_gap_score») false (b .«last_gap») (b .«marks_seen») (b .«gaps_seen»)) ≡ heldGapOut (view b))
       × Sturdy (heardBank b (b .«primary_score») (b .«primary_gap_score») false (b .«last_gap») (b .«marks_seen») (b .«gaps_seen»))
   dropped =
-      let t = y .steady in
-      (
+      let t = y .steady in (
         refl,
         record {
           steady = record { some = t .some; wide = t .wide; below = t .below; crew = t .crew; score = t .score; gapScore = t .gapScore; streaks = t .streaks; lastGap = λ e. absurd (false≢true e); log = t .log };
           pending = y .pending;
-        }
+        },
       )
 
   -- a gap that is no pause
@@ -92,11 +91,11 @@ module _ (b : TimingBank) (y : Sturdy b) where
       → (view (heardBank c s g true d (c .«marks_seen») (b .«gaps_seen» + 1)) ≡ heardGap standard (view b) p d) × Sturdy (heardBank c s g true d (c .«marks_seen») (b .«gaps_seen» + 1))
   gap-heard c p d s g i k es eg = (
     ap (λ (x : TimingBank). view (heardBank x s g true d (x .«marks_seen») (b .«gaps_seen» + 1))) (k .same)
-    ∙ ap (λ (l : List Hyp). heardModel (view b) l s g (some d) (b .«marks_seen») (b .«gaps_seen» + 1)) (k .is)
-    ∙ ap (λ (z : Float). heardModel (view b) (map (gapped standard d) (view b .challengers)) z g (some d) (b .«marks_seen») (b .«gaps_seen» + 1)) es
-    ∙ ap (λ (z : Float). heardModel (view b) (map (gapped standard d) (view b .challengers)) (gapScore standard (b .«primary_score») p d) z (some d) (b .«marks_seen») (b .«gaps_seen» + 1)) eg,
+        ∙ ap (λ (l : List Hyp). heardModel (view b) l s g (some d) (b .«marks_seen») (b .«gaps_seen» + 1)) (k .is)
+        ∙ ap (λ (z : Float). heardModel (view b) (map (gapped standard d) (view b .challengers)) z g (some d) (b .«marks_seen») (b .«gaps_seen» + 1)) es
+        ∙ ap (λ (z : Float). heardModel (view b) (map (gapped standard d) (view b .challengers)) (gapScore standard (b .«primary_score») p d) z (some d) (b .«marks_seen») (b .«gaps_seen» + 1)) eg,
     heard-sturdy c _ s g true d (c .«marks_seen») (b .«gaps_seen» + 1) k (subst (In scoreMin nought) (sym es) (gap-score-in standard (b .«primary_score») p d (y .steady .score)))
-    (subst (In scoreMin nought) (sym eg) (gap-score-in standard (b .«primary_gap_score») p d (y .steady .gapScore))) (λ e. i),
+        (subst (In scoreMin nought) (sym eg) (gap-score-in standard (b .«primary_gap_score») p d (y .steady .gapScore))) (λ e. i),
   )
 
   -- a mark is scored
@@ -104,10 +103,10 @@ module _ (b : TimingBank) (y : Sturdy b) where
       → (view (heardBank c s (c .«primary_gap_score») false (c .«last_gap») (b .«marks_seen» + 1) (c .«gaps_seen»)) ≡ scored standard (view b) p d live) × Sturdy (heardBank c s (c .«primary_gap_score») false (c .«last_gap») (b .«marks_seen» + 1) (c .«gaps_seen»))
   mark-heard c p d s live k es = (
     ap (λ (x : TimingBank). view (heardBank x s (x .«primary_gap_score») false (x .«last_gap») (b .«marks_seen» + 1) (x .«gaps_seen»))) (k .same)
-    ∙ ap (λ (l : List Hyp). heardModel (view b) l s (b .«primary_gap_score») none (b .«marks_seen» + 1) (b .«gaps_seen»)) (k .is)
-    ∙ ap (λ (z : Float). heardModel (view b) (map (marked standard d live) (view b .challengers)) z (b .«primary_gap_score») none (b .«marks_seen» + 1) (b .«gaps_seen»)) es,
+        ∙ ap (λ (l : List Hyp). heardModel (view b) l s (b .«primary_gap_score») none (b .«marks_seen» + 1) (b .«gaps_seen»)) (k .is)
+        ∙ ap (λ (z : Float). heardModel (view b) (map (marked standard d live) (view b .challengers)) z (b .«primary_gap_score») none (b .«marks_seen» + 1) (b .«gaps_seen»)) es,
     heard-sturdy c _ s (c .«primary_gap_score») false (c .«last_gap») (b .«marks_seen» + 1) (c .«gaps_seen») k (subst (In scoreMin nought) (sym es) (mark-score-in (b .«primary_score») p d (y .steady .score)))
-    (subst (In scoreMin nought) (sym (ap (λ (x : TimingBank). x .«primary_gap_score») (k .same))) (y .steady .gapScore)) (λ e. absurd (false≢true e)),
+        (subst (In scoreMin nought) (sym (ap (λ (x : TimingBank). x .«primary_gap_score») (k .same))) (y .steady .gapScore)) (λ e. absurd (false≢true e)),
   )
 
 -- the primary's score of a mark

@@ -136,12 +136,12 @@ module _ (f : Hyp → Option Cause) (b : TimingBank) (gone₀ : List Departure) 
           behind = omega arith;
           same = ap (λ (x : TimingBank). restocked x (set (c .challengers) w it)) (k .same);
           front =
-            ap (map viewHyp) at-end ∙ map-snoc viewHyp (take w (c .challengers)) it ∙ ap (λ (r : List Hyp). r ++ (viewHyp it ∷ [])) (k .front)
-            ∙ ap (λ (o : Option Cause). staying f (take i (view b .challengers)) ++ stayIf o (viewHyp it) []) (sym e) ∙ sym (stay-next f (view b .challengers) i (viewHyp z) (viewHyp it) size seen);
+              ap (map viewHyp) at-end ∙ map-snoc viewHyp (take w (c .challengers)) it ∙ ap (λ (r : List Hyp). r ++ (viewHyp it ∷ [])) (k .front)
+              ∙ ap (λ (o : Option Cause). staying f (take i (view b .challengers)) ++ stayIf o (viewHyp it) []) (sym e) ∙ sym (stay-next f (view b .challengers) i (viewHyp z) (viewHyp it) size seen);
           rest = drop-set-lt (i + 1) (c .challengers) w it (omega arith) ∙ after;
           left =
-            k .left ∙ ap (λ (r : List Departure). take g₀ gone₀ ++ r)
-            (sym (append-nil (leaving f (take i (view b .challengers)))) ∙ ap (λ (o : Option Cause). leaving f (take i (view b .challengers)) ++ leaveIf o (viewHyp it) []) (sym e) ∙ sym (leave-next f (view b .challengers) i (viewHyp z) (viewHyp it) size seen));
+              k .left ∙ ap (λ (r : List Departure). take g₀ gone₀ ++ r)
+              (sym (append-nil (leaving f (take i (view b .challengers)))) ∙ ap (λ (o : Option Cause). leaving f (take i (view b .challengers)) ++ leaveIf o (viewHyp it) []) (sym e) ∙ sym (leave-next f (view b .challengers) i (viewHyp z) (viewHyp it) size seen));
           long = length-set (c .challengers) w it ∙ k .long;
           space = k .space;
           few = k .few;
@@ -162,13 +162,13 @@ module _ (f : Hyp → Option Cause) (b : TimingBank) (gone₀ : List Departure) 
           behind = let j = k .behind in omega arith;
           same = k .same;
           front =
-            k .front ∙ sym (append-nil (staying f (take i (view b .challengers)))) ∙ ap (λ (o : Option Cause). staying f (take i (view b .challengers)) ++ stayIf o (viewHyp it) []) e
-            ∙ sym (stay-next f (view b .challengers) i (viewHyp z) (viewHyp it) size seen);
+              k .front ∙ sym (append-nil (staying f (take i (view b .challengers)))) ∙ ap (λ (o : Option Cause). staying f (take i (view b .challengers)) ++ stayIf o (viewHyp it) []) e
+              ∙ sym (stay-next f (view b .challengers) i (viewHyp z) (viewHyp it) size seen);
           rest = after;
           left =
-            put-at-end gone g d (omega arith) ∙ ap (λ (r : List Departure). r ++ (d ∷ [])) (k .left) ∙ append-assoc (take g₀ gone₀) (leaving f (take i (view b .challengers))) (d ∷ [])
-            ∙ ap (λ (r : List Departure). take g₀ gone₀ ++ r)
-            (ap (λ (o : Option Cause). leaving f (take i (view b .challengers)) ++ leaveIf o (viewHyp it) []) e ∙ sym (leave-next f (view b .challengers) i (viewHyp z) (viewHyp it) size seen));
+              put-at-end gone g d (omega arith) ∙ ap (λ (r : List Departure). r ++ (d ∷ [])) (k .left) ∙ append-assoc (take g₀ gone₀) (leaving f (take i (view b .challengers))) (d ∷ [])
+              ∙ ap (λ (r : List Departure). take g₀ gone₀ ++ r)
+              (ap (λ (o : Option Cause). leaving f (take i (view b .challengers)) ++ leaveIf o (viewHyp it) []) e ∙ sym (leave-next f (view b .challengers) i (viewHyp z) (viewHyp it) size seen));
           long = k .long;
           space = length-set gone g d ∙ k .space;
           few = k .few;
@@ -203,7 +203,7 @@ counted c w = record {
 }
 
 module _ (lo hi : Float) (t : Changed) (c : TimingBank) (gone : List Departure) (g w i : ℕ)
-  (k : Sifting (causeAt standard (t .bank .«primary_score») lo hi) (t .bank) (t .left) (t .«left_len») c gone g w i) (h : t .bank .«challengers_len» ≤ i) where
+    (k : Sifting (causeAt standard (t .bank .«primary_score») lo hi) (t .bank) (t .left) (t .«left_len») c gone g w i) (h : t .bank .«challengers_len» ≤ i) where
   abbrev b : TimingBank
   b = t .bank
 
@@ -265,10 +265,10 @@ module _ (n : ℕ) (l : List TimingHypothesis) where
         space = length-set left i d ∙ r;
         crew = w;
         is =
-          put-at-end left i d (omega arith) ∙ ap (λ (x : List Departure). x ++ (d ∷ [])) (k .is)
-          ∙ ap (λ (y : Hyp). map goneCleared (take i (viewAll n l)) ++ (goneCleared y ∷ [])) (sym (view-at viewHyp n l i z h))
-          ∙ sym (map-snoc goneCleared (take i (viewAll n l)) (getD (viewAll n l) i (viewHyp z)))
-          ∙ ap (map goneCleared) (sym (next (viewAll n l) i (viewHyp z) (omega arith)));
+            put-at-end left i d (omega arith) ∙ ap (λ (x : List Departure). x ++ (d ∷ [])) (k .is)
+            ∙ ap (λ (y : Hyp). map goneCleared (take i (viewAll n l)) ++ (goneCleared y ∷ [])) (sym (view-at viewHyp n l i z h))
+            ∙ sym (map-snoc goneCleared (take i (viewAll n l)) (getD (viewAll n l) i (viewHyp z)))
+            ∙ ap (map goneCleared) (sym (next (viewAll n l) i (viewHyp z) (omega arith)));
       }
 
   pub note-ends : (left : List Departure) (i : ℕ) → n ≤ i → Noting left i → (take n left ≡ map goneCleared (viewAll n l)) × (length left ≡ 9)

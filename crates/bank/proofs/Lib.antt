@@ -8,3 +8,5 @@ pub mod Choosing
 pub mod Streaking
 pub mod Hearing
 pub mod Clearing
+pub mod Switched
+pub mod Reading

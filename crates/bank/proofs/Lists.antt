@@ -114,8 +114,8 @@ module _ {C M : Type 0} where
           upto = omega arith;
           room = k;
           is =
-            w .is ∙ ap (F i acc) (drop-cons m i (v z) (omega arith)) ∙ ap (λ (x : M). F i acc (x ∷ drop (suc i) m)) (view-at v n l i z h)
-            ∙ s (drop (suc i) m) ∙ rw add-one;
+              w .is ∙ ap (F i acc) (drop-cons m i (v z) (omega arith)) ∙ ap (λ (x : M). F i acc (x ∷ drop (suc i) m)) (view-at v n l i z h)
+              ∙ s (drop (suc i) m) ∙ rw add-one;
         }
 
     -- what stands at i decides

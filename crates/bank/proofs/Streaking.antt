@@ -96,12 +96,11 @@ module _ (b : TimingBank) (s : Sturdy b) where
       extend-gap g has e j r =
           let k = s .steady .streaks in
           let p = k .paired in
-          let m = b .«streak_gaps_len» in
-          (
+          let m = b .«streak_gaps_len» in (
             ap (λ (z : List Float). withStreak (view b) side z (take (m + 1) (set (b .«streak_gaps») m g))) marked
-            ∙ ap (withStreak (view b) side (view b .evidence .streak ++ (d ∷ []))) (put-at-end (b .«streak_gaps») m g (omega arith) ∙ ap (λ (z : Bool). view b .evidence .gaps ++ one (given z g)) (sym e)),
+                ∙ ap (withStreak (view b) side (view b .evidence .streak ++ (d ∷ []))) (put-at-end (b .«streak_gaps») m g (omega arith) ∙ ap (λ (z : Bool). view b .evidence .gaps ++ one (given z g)) (sym e)),
             stroke-sturdy marks (n + 1) (set (b .«streak_gaps») m g) (m + 1) true side
-            (record { few = omega arith; paired = omega arith; long = length-set (b .streak) n d ∙ l; gapsLong = length-set (b .«streak_gaps») m g ∙ r; marks = put-in (b .streak) n d (omega arith) (k .marks) i; between = put-in (b .«streak_gaps») m g (omega arith) (k .between) (j e) })
+                (record { few = omega arith; paired = omega arith; long = length-set (b .streak) n d ∙ l; gapsLong = length-set (b .«streak_gaps») m g ∙ r; marks = put-in (b .streak) n d (omega arith) (k .marks) i; between = put-in (b .«streak_gaps») m g (omega arith) (k .between) (j e) }),
           )
 
       pub extend-none : (g : Float) (has : Bool) → has ≡ false
@@ -110,12 +109,11 @@ module _ (b : TimingBank) (s : Sturdy b) where
       extend-none g has e =
           let k = s .steady .streaks in
           let p = k .paired in
-          let m = b .«streak_gaps_len» in
-          (
+          let m = b .«streak_gaps_len» in (
             ap (λ (z : List Float). withStreak (view b) side z (take m (b .«streak_gaps»))) marked
-            ∙ ap (withStreak (view b) side (view b .evidence .streak ++ (d ∷ []))) (sym (append-nil (view b .evidence .gaps)) ∙ ap (λ (z : Bool). view b .evidence .gaps ++ one (given z g)) (sym e)),
+                ∙ ap (withStreak (view b) side (view b .evidence .streak ++ (d ∷ []))) (sym (append-nil (view b .evidence .gaps)) ∙ ap (λ (z : Bool). view b .evidence .gaps ++ one (given z g)) (sym e)),
             stroke-sturdy marks (n + 1) (b .«streak_gaps») m true side
-            (record { few = omega arith; paired = omega arith; long = length-set (b .streak) n d ∙ l; gapsLong = k .gapsLong; marks = put-in (b .streak) n d (omega arith) (k .marks) i; between = k .between })
+                (record { few = omega arith; paired = omega arith; long = length-set (b .streak) n d ∙ l; gapsLong = k .gapsLong; marks = put-in (b .streak) n d (omega arith) (k .marks) i; between = k .between }),
           )
 
     first : (l : List Float) → 0 < length l → take 1 (set l 0 d) ≡ d ∷ []
@@ -126,7 +124,7 @@ module _ (b : TimingBank) (s : Sturdy b) where
     begun = (
       ap (λ (z : List Float). withStreak (view b) side z []) (first (b .streak) (omega arith)),
       stroke-sturdy (set (b .streak) 0 d) 1 (b .«streak_gaps») 0 true side
-      (record { few = omega arith; paired = omega arith; long = length-set (b .streak) 0 d ∙ l; gapsLong = s .steady .streaks .gapsLong; marks = subst Long (sym (first (b .streak) (omega arith))) (append-in durationMin durationMax [] d (none-in durationMin durationMax) i); between = none-in durationMin durationMax }),
+          (record { few = omega arith; paired = omega arith; long = length-set (b .streak) 0 d ∙ l; gapsLong = s .steady .streaks .gapsLong; marks = subst Long (sym (first (b .streak) (omega arith))) (append-in durationMin durationMax [] d (none-in durationMin durationMax) i); between = none-in durationMin durationMax }),
     )
 
   pub emptied-is : (view (stroke b (b .streak) 0 (b .«streak_gaps») 0 (b .«has_side») (b .«streak_side»)) ≡ withEvidence (view b) (emptied (view b .evidence))) × Sturdy (stroke b (b .streak) 0 (b .«streak_gaps») 0 (b .«has_side») (b .«streak_side»))

@@ -7,5 +7,7 @@ pub mod gap;
 pub mod leave;
 pub mod mark;
 pub mod qualify;
+pub mod ready;
 pub mod spawn;
 pub mod streak;
+pub mod switch;

@@ -2,3 +2,4 @@ pub mod Tests
 pub mod Scoring
 pub mod Ready
 pub mod Places
+pub mod Others

@@ -3,9 +3,13 @@ use mathlib.Core.Path.{_≡_, refl, sym, ap, _∙_, subst}
 use mathlib.Core.Bool.{Bool, true, false, not, cond, _&&_}
 use mathlib.Core.List.{List}
 use mathlib.Core.Option.{Option, none, some}
-use Prim.Native.Nat.{ℕ}
-use lib.Dec.{T}
-use lib.Ieee.{Float, binary32, mul, lt, isNan, ofBits}
+use Prim.Native.Nat.{ℕ, zero, suc, _*_, _<_}
+use lib.Dec.{T, leb→le}
+use lib.Ieee.{Float, nan, inf, fin, up, down, binary32, mul, lt, isNan, ofBits}
+use lib.Ieee.Fits.{down-pos}
+use lib.IntN.{ℤ}
+use native.Mathlib.Omega.{arith}
+use borrow.Author.Tests.{lt-ltb}
 use lib.Ieee.Positive.{positive, positive-finite, between}
 use Rattle.order.specs.Order.{larger}
 use Rattle.ranges.specs.Settings.{Settings, standard}
@@ -19,8 +23,8 @@ use Rattle.tracker.specs.Model.{Pair, Tracker, view, withCentroids, withPair}
 use Rattle.tracker.specs.Lock.{parts, bimodal, asDahs, asDits, unimodal, locked, initialized, constrained, anchorsDit, anchorsDah, boundary, moved, learnt, observed}
 use Rattle.tracker.specs.Steps.{bound, uniform, drifts, drifted, fragment, recoveredBy, checked, followed, fresh, fromMarks, otherPair, hasOther, threeToOne, onMark, settled, estimate, ditEstimate, elementGap, onGap}
 use Rattle.tracker.specs.declared.SpeedTracker.{SpeedTracker}
-use Rattle.tracker.specs.Sound.{positiveOr, sound}
-use Rattle.tracker.proofs.Soundness.{sound-fine, ready-in}
+use Rattle.tracker.specs.Sound.{positiveOr, plusZero, sound}
+use Rattle.tracker.proofs.Soundness.{sound-fine, ready-in, unready-zero}
 use Rattle.tracker.proofs.Keeping.{by-cond, on-true, gaps-pair}
 use Rattle.bank_model.specs.Constants.{milli}
 
@@ -117,3 +121,27 @@ turned-by false x y r e = cc
 pub turned-ready : (k : Settings) (m t : Tracker) → threeToOne k m ≡ some t → t .pair .ready ≡ true
 unfolding threeToOne
 turned-ready k m t e = turned-by (hasOther k (m .pair)) _ t (constrained-ready k _ _ (other-up (m .pair))) e
+
+-- ---- the centroids of an unready tracker are +0
+less : (u d : ℕ) → 0 < d → 0 * u * 8589934592 < 8589935 * 1 * d
+less u d h = omega arith
+
+zero-below : (e : ℤ) → lt (fin false 0 e) milli ≡ true
+unfolding lt ofBits
+zero-below e = lt-ltb (0 * up e * 8589934592) (8589935 * 1 * down e) (less (up e) (down e) (down-pos e))
+
+zero-log : (v : Float) → T (plusZero v) → T (positive (larger v milli))
+unfolding isNan
+zero-log nan p = absurd p
+zero-log (inf s) p = absurd p
+zero-log (fin true m e) p = absurd p
+zero-log (fin false zero e) p = subst (λ (b : Bool). T (positive (cond b milli (fin false zero e)))) (sym (zero-below e)) milli-positive
+zero-log (fin false (suc m) e) p = let h = leb→le (suc m) 0 p in absurd (omega arith)
+
+module _ (t : SpeedTracker) (s : T (sound standard t)) where
+  either-way : (b : Bool) → t .pair .ready ≡ b → T (positive (larger (t .pair .lo) milli)) × T (positive (larger (t .pair .hi) milli))
+  either-way true u = (dit-log t s u, dah-log t s u)
+  either-way false u = let z = unready-zero standard (view t .pair) u (sound-fine standard t s .pair) in (zero-log (t .pair .lo) (z .0), zero-log (t .pair .hi) (z .1))
+
+  pub centroid-logs : T (positive (larger (t .pair .lo) milli)) × T (positive (larger (t .pair .hi) milli))
+  centroid-logs = either-way (t .pair .ready) refl

@@ -3,7 +3,7 @@ use mathlib.Core.Bool.{Bool, true, false, cond, not, _&&_, _||_, Bool·beq}
 use mathlib.Core.List.{List, [], _∷_, _++_, map}
 use mathlib.Core.Option.{Option, none, some}
 use Prim.Native.Nat.{ℕ, zero, suc, _+_, _-_}
-use lib.ListN.{length, set, take, drop, getElem?}
+use lib.ListN.{length, set, getElem?}
 use lib.Dec.{ltb, leb, eqb}
 use lib.Ieee.{Float, binary32, mul, lt, le}
 use Rattle.order.specs.Order.{larger, totalLess}
@@ -154,8 +154,10 @@ leastPlace [] = 0
 leastPlace (x ∷ xs) = firstLeast 1 0 x xs
 
 -- all but the one at place i
-abbrev pub without : ℕ → List Float → List Float
-without i l = take i l ++ drop (suc i) l
+unfoldable pub without : ℕ → List Float → List Float
+without i [] = []
+without zero (x ∷ xs) = xs
+without (suc i) (x ∷ xs) = x ∷ without i xs
 
 -- a lock whose dit is one mark of three or more, and confirmed (the fragment's shape)
 abbrev pub lone : Tracker → List Float → Bool

@@ -114,10 +114,7 @@ pub(crate) fn lead_one(h: TimingHypothesis, score: f32) -> TimingHypothesis
 {
     if 4.0 <= h.score - score {
         let n = up_one(h.lead_marks);
-        return TimingHypothesis {
-            lead_marks: n,
-            ..h
-        };
+        return TimingHypothesis { lead_marks: n, ..h };
     }
     TimingHypothesis {
         lead_marks: 0,

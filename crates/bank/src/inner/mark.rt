@@ -25,7 +25,14 @@ ghost use Rattle.bank.specs.View.{view, told};
 ghost use Rattle.bank.specs.Parts.{Sturdy, Countable, Came};
 
 // The mark d, beside a primary p of logarithms lo and hi: each score, and the held gap taken out.
-pub(crate) fn score_all(b: TimingBank, p: SpeedTracker, lo: f32, hi: f32, d: f32, live: bool) -> TimingBank
+pub(crate) fn score_all(
+    b: TimingBank,
+    p: SpeedTracker,
+    lo: f32,
+    hi: f32,
+    d: f32,
+    live: bool,
+) -> TimingBank
     requires { ⌜ Sturdy b × Countable b ⌝ }
     requires { ⌜ T (duration d) ⌝ }
     requires { ⌜ (lo ≡ lnDit (Tracked.view p)) × (hi ≡ lnDah (Tracked.view p)) ⌝ }
@@ -42,7 +49,14 @@ pub(crate) fn score_all(b: TimingBank, p: SpeedTracker, lo: f32, hi: f32, d: f32
 }
 
 // The same, and the candidate of a live streak.
-pub(crate) fn score_mark(b: TimingBank, p: SpeedTracker, lo: f32, hi: f32, d: f32, live: bool) -> Changed
+pub(crate) fn score_mark(
+    b: TimingBank,
+    p: SpeedTracker,
+    lo: f32,
+    hi: f32,
+    d: f32,
+    live: bool,
+) -> Changed
     requires { ⌜ Sturdy b × Countable b ⌝ }
     requires { ⌜ T (duration d) ⌝ }
     requires { ⌜ (lo ≡ lnDit (Tracked.view p)) × (hi ≡ lnDah (Tracked.view p)) ⌝ }

@@ -28,7 +28,13 @@ ghost use Rattle.bank.specs.View.{viewHyp, view, told};
 ghost use Rattle.bank.specs.Parts.{Fit, Sturdy, Came};
 
 // A challenger with the primary's scores and the next serial.
-pub(crate) fn newborn(b: TimingBank, t: SpeedTracker, o: Origin, lo: f32, hi: f32) -> TimingHypothesis
+pub(crate) fn newborn(
+    b: TimingBank,
+    t: SpeedTracker,
+    o: Origin,
+    lo: f32,
+    hi: f32,
+) -> TimingHypothesis
     requires { ⌜ Sturdy b ⌝ }
     requires { ⌜ T (sound standard t) × (t .pair .ready ≡ true) ⌝ }
     requires { ⌜ (lo ≡ lnDit (Tracked.view t)) × (hi ≡ lnDah (Tracked.view t)) ⌝ }

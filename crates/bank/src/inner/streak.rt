@@ -135,7 +135,15 @@ pub(crate) fn candidate(b: TimingBank, lo: f32, hi: f32) -> Alternative
 }
 
 // A mark of the streak, and the candidate that four make.
-pub(crate) fn step_streak(b: TimingBank, side: bool, lo: f32, hi: f32, d: f32, has_gap: bool, gap: f32) -> Changed
+pub(crate) fn step_streak(
+    b: TimingBank,
+    side: bool,
+    lo: f32,
+    hi: f32,
+    d: f32,
+    has_gap: bool,
+    gap: f32,
+) -> Changed
     requires { ⌜ Sturdy b ⌝ }
     requires { ⌜ In durationMin durationMax d ⌝ }
     requires { ⌜ GapIn «has_gap» gap ⌝ }

@@ -77,7 +77,7 @@ victim-requires c κs = search needs
 
 -- src/inner/spawn.rt:115:5
 replace-requires : tie.Need-replace-requires
-replace-requires c κs = (( c .before .before .before .before .before .before .before .before .before .before .before .pre .0, c .before .before .before .newborn .ensures .1), victim-before (c .before .before .before .before .before .before .before .before .before .before .before .args .b) (c .victim .result) (c .before .before .before .before .before .before .before .before .before .before .before .pre .0 .steady .crew) (c .victim .ensures))
+replace-requires c κs = ((c .before .before .before .before .before .before .before .before .before .before .before .pre .0, c .before .before .before .newborn .ensures .1), victim-before (c .before .before .before .before .before .before .before .before .before .before .before .args .b) (c .victim .result) (c .before .before .before .before .before .before .before .before .before .before .before .pre .0 .steady .crew) (c .victim .ensures))
 
 -- src/inner/spawn.rt:95:1
 returns-4 : tie.Need-returns-4
