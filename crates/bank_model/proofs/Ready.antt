@@ -4,16 +4,18 @@ use mathlib.Core.Bool.{Bool, true, false, not, cond, _&&_}
 use mathlib.Core.List.{List}
 use mathlib.Core.Option.{Option, none, some}
 use Prim.Native.Nat.{ℕ, zero, suc, _*_, _<_}
-use lib.Dec.{T, leb→le}
-use lib.Ieee.{Float, nan, inf, fin, up, down, binary32, mul, lt, isNan, ofBits}
-use lib.Ieee.Fits.{down-pos}
+use lib.Dec.{T}
+use lib.Ieee.{Float, fin, up, down, binary32, mul, lt, eq, isNan, ofBits}
+use lib.Ieee.Bits.{is-true}
+use lib.Ieee.Fits.{down-pos, and-l, and-r}
 use lib.IntN.{ℤ}
 use native.Mathlib.Omega.{arith}
 use borrow.Author.Tests.{lt-ltb}
 use lib.Ieee.Positive.{positive, positive-finite, between}
-use Rattle.order.specs.Order.{larger}
+use Rattle.order.specs.Order.{larger, negative}
+use Rattle.numbers.proofs.Plain.{zero-is, zero-by}
 use Rattle.ranges.specs.Settings.{Settings, standard}
-use Rattle.ranges.specs.Limits.{dahMin, dahMax}
+use Rattle.ranges.specs.Limits.{nought, dahMin, dahMax}
 use Rattle.ranges.specs.Interval.{In}
 use Rattle.ranges.specs.Mean.{meanOf}
 use Rattle.ranges.proofs.Standard.{dit-positive, estimate-in, standard-good, standard-held}
@@ -130,13 +132,16 @@ zero-below : (e : ℤ) → lt (fin false 0 e) milli ≡ true
 unfolding lt ofBits
 zero-below e = lt-ltb (0 * up e * 8589934592) (8589935 * 1 * down e) (less (up e) (down e) (down-pos e))
 
-zero-log : (v : Float) → T (plusZero v) → T (positive (larger v milli))
+plain-zero-log : (s : Bool) (e : ℤ) → T (not (negative (fin s zero e))) → T (positive (larger (fin s zero e) milli))
 unfolding isNan
-zero-log nan p = absurd p
-zero-log (inf s) p = absurd p
-zero-log (fin true m e) p = absurd p
-zero-log (fin false zero e) p = subst (λ (b : Bool). T (positive (cond b milli (fin false zero e)))) (sym (zero-below e)) milli-positive
-zero-log (fin false (suc m) e) p = let h = leb→le (suc m) 0 p in absurd (omega arith)
+plain-zero-log true e h = absurd h
+plain-zero-log false e h = subst (λ (b : Bool). T (positive (cond b milli (fin false zero e)))) (sym (zero-below e)) milli-positive
+
+zero-log : (v : Float) → T (plusZero v) → T (positive (larger v milli))
+zero-log v p =
+    let z = zero-by binary32 v (ap (eq v) (zero-is binary32) ∙ is-true (eq v nought) (and-l (eq v nought) (not (negative v)) p)) in
+    subst (λ (x : Float). T (positive (larger x milli))) (sym (z .2))
+    (plain-zero-log (z .0) (z .1) (subst (λ (x : Float). T (not (negative x))) (z .2) (and-r (eq v nought) (not (negative v)) p)))
 
 module _ (t : SpeedTracker) (s : T (sound standard t)) where
   either-way : (b : Bool) → t .pair .ready ≡ b → T (positive (larger (t .pair .lo) milli)) × T (positive (larger (t .pair .hi) milli))
