@@ -159,7 +159,7 @@ without i [] = []
 without zero (x ∷ xs) = xs
 without (suc i) (x ∷ xs) = x ∷ without i xs
 
--- a lock whose dit is one mark of three or more, and confirmed (the fragment's shape)
+-- a lock whose dit is one mark of three or more; `other` asks it of a confirmed one (the fragment's shape)
 abbrev pub lone : Tracker → List Float → Bool
 lone p marks = eqb (p .pair .loN) 1 && leb 3 (length marks)
 

@@ -76,7 +76,7 @@ pub(crate) fn others(marks: &[f32], k: usize) -> [f32; 12]
     out
 }
 
-// Whether a confirmed lock rests on one mark of three or more.
+// Whether a lock's dit rests on one mark of three or more.
 pub(crate) fn is_lone(p: SpeedTracker, n: usize) -> bool
     ensures { λ r. ⌜ r ≡ (eqb (p .pair .«lo_n») 1 && leb 3 n) ⌝ }
 {
