@@ -1,4 +1,3 @@
-pub mod Each
 pub mod Finds
 pub mod Lists
 pub mod Stock

@@ -24,11 +24,13 @@ use Rattle.bank_model.specs.declared.SwitchRecord.{SwitchRecord}
 use Rattle.bank_model.specs.Model.{Hyp, Bank}
 use Rattle.bank_model.specs.Steps.{logged, formerly, exchanged, reporting, unpended, observed, untaken, takenAt, takenOf, takeSwitch}
 use Rattle.bank_model.specs.Steps as Steps
-use Rattle.bank.specs.declared.TimingHypothesis.{TimingHypothesis}
+use Rattle.rival.specs.declared.TimingHypothesis.{TimingHypothesis}
 use Rattle.bank.specs.declared.TimingBank.{TimingBank}
 use Rattle.bank.specs.declared.inner.switch.Taken.{Taken}
-use Rattle.bank.specs.View.{given, viewHyp, viewAll, view}
-use Rattle.bank.specs.Parts.{All, Fit, Crew, Recorded, Log, relogged, Logging, Sturdy}
+use Rattle.rival.specs.View.{viewHyp}
+use Rattle.bank.specs.View.{given, viewAll, view}
+use Rattle.rival.specs.Parts.{Fit}
+use Rattle.bank.specs.Parts.{All, Crew, Recorded, Log, relogged, Logging, Sturdy}
 use Rattle.bank.specs.Switching.{taking, noting, Chosen, viewTaken, Took}
 use Rattle.bank.proofs.Lists.{all-append, put-at-end, map-set, view-length, view-at}
 use Rattle.bank.proofs.Stock.{room, member, crew-set}

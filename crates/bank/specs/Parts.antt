@@ -13,11 +13,12 @@ use Rattle.ranges.specs.Interval.{In, AllIn}
 use Rattle.tracker.specs.Sound as Tracking
 use Rattle.bank_model.specs.declared.SwitchRecord.{SwitchRecord}
 use Rattle.bank_model.specs.Scores.{lnDit, lnDah}
-use Rattle.bank.specs.declared.TimingHypothesis.{TimingHypothesis}
+use Rattle.rival.specs.declared.TimingHypothesis.{TimingHypothesis}
 use Rattle.bank.specs.declared.TimingBank.{TimingBank}
 use Rattle.bank_model.specs.Model.{Hyp, Bank, Told, withEvidence}
 use Rattle.bank.specs.declared.Changed.{Changed}
-use Rattle.bank.specs.View.{viewHyp, viewAll, told}
+use Rattle.rival.specs.View.{viewHyp}
+use Rattle.bank.specs.View.{viewAll, told}
 
 -- "the widest bank"
 abbrev pub widest : ℕ
@@ -28,25 +29,11 @@ unfoldable pub All : {A : Type 0} → (A → Type 0) → List A → Type 0
 All P [] = Unit {0}
 All P (x ∷ xs) = P x × All P xs
 
--- a challenger: a sound tracker that is ready, its logarithms, scores from -30 to 0
-pub record Fit (h : TimingHypothesis) : Type 0 where
-  pub tracker : T (Tracking.sound standard (h .tracker))
-  pub ready : h .tracker .pair .ready ≡ true
-  pub lnLo : h .«ln_lo» ≡ lnDit (viewHyp h .tracker)
-  pub lnHi : h .«ln_hi» ≡ lnDah (viewHyp h .tracker)
-  pub score : In scoreMin nought (h .score)
-  pub gapScore : In scoreMin nought (h .«gap_score»)
-
 -- the first n places of an array of challengers
 pub record Crew (n : ℕ) (l : List TimingHypothesis) : Type 0 where
   pub few : n ≤ widest
   pub long : length l ≡ widest
   pub each : All Fit (take n l)
-
--- there is none
-abbrev pub isNone : {A : Type 0} → Option A → Bool
-isNone none = true
-isNone (some x) = false
 
 -- a bank with other challengers in its array
 abbrev pub restocked : TimingBank → List TimingHypothesis → TimingBank

@@ -1,10 +1,10 @@
 // Who leaves: `prune`, and what a clear tells.
 use crate::Changed;
 use crate::TimingBank;
-use crate::inner::each::is_kept;
-use crate::inner::each::why;
 use bank_model::Cause;
 use bank_model::Departure;
+use rival::inner::each::is_kept;
+use rival::inner::each::why;
 ghost use mathlib.Core.Path.{_≡_};
 ghost use mathlib.Core.List.{map};
 ghost use Prim.Native.Nat.{_≤_};

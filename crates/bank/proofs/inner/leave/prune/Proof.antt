@@ -8,8 +8,8 @@ use Rattle.bank.proofs.inner.leave.prune.Statement.{statement}
 use Rattle.bank.proofs.inner.leave.prune.Tie as tie
 use Rattle.bank.proofs.inner.leave.prune.Reads as reads
 use Rattle.bank.proofs.inner.leave.prune.Lts as lts
-use Rattle.bank.proofs.inner.each.is_kept.Reads as is-kept-reads
-use Rattle.bank.proofs.inner.each.why.Reads as why-reads
+use Rattle.rival.proofs.inner.each.is_kept.Reads as is-kept-reads
+use Rattle.rival.proofs.inner.each.why.Reads as why-reads
 
 abbrev Inv-loop : tie.InvT-loop
 Inv-loop lo hi c₀ left₀ g₀ n score w₀ i₀ c left g w i = Sifting (causeAt standard score lo hi) c₀ left₀ g₀ c left g w i
