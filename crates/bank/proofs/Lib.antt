@@ -7,5 +7,6 @@ pub mod Choosing
 pub mod Streaking
 pub mod Hearing
 pub mod Clearing
-pub mod Switched
+pub mod Exchanging
 pub mod Reading
+pub mod Sounding

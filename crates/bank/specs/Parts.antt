@@ -4,20 +4,16 @@ use mathlib.Core.Bool.{Bool, true, false}
 use mathlib.Core.Option.{Option, none, some}
 use mathlib.Core.List.{List, [], _∷_}
 use Prim.Native.Nat.{ℕ, _≤_, _<_}
-use lib.Dec.{T}
 use lib.ListN.{length, take}
 use lib.Ieee.{Float}
-use Rattle.ranges.specs.Settings.{standard}
 use Rattle.ranges.specs.Limits.{nought, scoreMin, durationMin, durationMax}
 use Rattle.ranges.specs.Interval.{In, AllIn}
-use Rattle.tracker.specs.Sound as Tracking
 use Rattle.bank_model.specs.declared.SwitchRecord.{SwitchRecord}
-use Rattle.bank_model.specs.Scores.{lnDit, lnDah}
 use Rattle.rival.specs.declared.TimingHypothesis.{TimingHypothesis}
 use Rattle.bank.specs.declared.TimingBank.{TimingBank}
 use Rattle.bank_model.specs.Model.{Hyp, Bank, Told, withEvidence}
 use Rattle.bank.specs.declared.Changed.{Changed}
-use Rattle.rival.specs.View.{viewHyp}
+use Rattle.rival.specs.Parts.{Fit}
 use Rattle.bank.specs.View.{viewAll, told}
 
 -- "the widest bank"

@@ -1,20 +1,14 @@
 -- What makes a bank sound (document 01, refusal 1). Definitions only.
-use mathlib.Core.Bool.{Bool, true, cond, _&&_, Bool·beq}
+use mathlib.Core.Bool.{Bool, true, cond, _&&_}
 use Prim.Native.Nat.{ℕ}
 use lib.Dec.{leb, ltb}
 use lib.ListN.{take}
-use lib.Ieee.{Float, eq}
-use Rattle.order.specs.Order.{negative}
+use lib.Ieee.{Float}
 use Rattle.ranges.specs.Settings.{Settings}
-use Rattle.ranges.specs.Limits.{nought, scoreMin}
-use Rattle.ranges.specs.Interval.{within}
 use Rattle.tracker.specs.Model.{all}
-use Rattle.tracker.specs.Model as Tracked
 use Rattle.tracker.specs.Sound.{duration, allDurations}
-use Rattle.tracker.specs.Sound as Tracking
 use Rattle.bank_model.specs.declared.SwitchRecord.{SwitchRecord}
-use Rattle.bank_model.specs.Scores.{lnDit, lnDah}
-use Rattle.rival.specs.declared.TimingHypothesis.{TimingHypothesis}
+use Rattle.rival.specs.Sound.{score, hypSound}
 use Rattle.bank.specs.declared.TimingBank.{TimingBank}
 
 -- "a held duration that 5 to 7 would refuse": the dits of a switch record

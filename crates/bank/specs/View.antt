@@ -4,10 +4,9 @@ use mathlib.Core.List.{List, map}
 use mathlib.Core.Option.{Option, none, some}
 use Prim.Native.Nat.{ℕ}
 use lib.ListN.{take}
-use lib.Ieee.{Float}
-use Rattle.tracker.specs.Model as Tracked
 use Rattle.bank_model.specs.Model.{Hyp, Evidence, Bank, Told}
 use Rattle.rival.specs.declared.TimingHypothesis.{TimingHypothesis}
+use Rattle.rival.specs.View.{viewHyp}
 use Rattle.bank.specs.declared.TimingBank.{TimingBank}
 use Rattle.bank.specs.declared.Changed.{Changed}
 

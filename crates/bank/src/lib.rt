@@ -6,7 +6,6 @@ use tracker::Flag;
 use tracker::SpeedTracker;
 use tracker::Told;
 
-pub mod calls;
 pub mod inner;
 
 // A bank: a list is an array and a count, an optional number is a flag and a number.

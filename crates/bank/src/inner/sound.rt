@@ -1,12 +1,10 @@
 // Whether a bank is sound (document 01, refusal 1).
 use crate::TimingBank;
 use bank_model::SwitchRecord;
-use bank_model::inner::scores::log_of;
-use order::negative32;
 use ranges::is_duration;
-use ranges::within;
-use rival::TimingHypothesis;
-use tracker::inner::sound as of_tracker;
+use rival::inner::sound::is_hyp_sound;
+use rival::inner::sound::is_score;
+use tracker::inner::sound::all_durations;
 ghost use mathlib.Core.Path.{_≡_};
 ghost use mathlib.Core.Bool.{true};
 ghost use Prim.Native.Nat.{_≤_};
@@ -14,10 +12,9 @@ ghost use lib.Dec.{T};
 ghost use lib.ListN.{take};
 ghost use Rattle.ranges.specs.Settings.{standard};
 ghost use Rattle.tracker.specs.Model.{all};
-ghost use Rattle.tracker.specs.Sound as Tracking;
-ghost use Rattle.rival.specs.Sound.{same, score, logsSame, scoresSound, hypSound};
-ghost use Rattle.bank.specs.Sound.{recordSound, counted, widthSound, pendingSound, gapSound, streakSound, primarySound, restSound, sound};
+ghost use Rattle.rival.specs.Sound.{hypSound};
 ghost use Rattle.rival.specs.Parts.{Fit};
+ghost use Rattle.bank.specs.Sound.{recordSound, counted, widthSound, pendingSound, gapSound, streakSound, primarySound, restSound, sound};
 ghost use Rattle.bank.specs.Parts.{widest, All, Sturdy};
 
 // Whether each challenger is sound.
@@ -118,10 +115,10 @@ pub(crate) fn is_streak_sound(b: TimingBank) -> bool
     if b.streak_gaps_len <= b.streak_len {
         let marks = b.streak;
         let n = b.streak_len;
-        if of_tracker::all_durations(&marks[..n]) {
+        if all_durations(&marks[..n]) {
             let gaps = b.streak_gaps;
             let m = b.streak_gaps_len;
-            if of_tracker::all_durations(&gaps[..m]) {
+            if all_durations(&gaps[..m]) {
                 return is_gap_sound(b.has_last_gap, b.last_gap);
             }
         }

@@ -25,7 +25,7 @@ pub(crate) fn is_same(a: f32, b: f32) -> bool
 }
 
 // Whether a score lies from -30 to 0.
-pub(crate) fn is_score(s: f32) -> bool
+pub fn is_score(s: f32) -> bool
     ensures { λ r. ⌜ r ≡ score s ⌝ }
 {
     within(s, LEAST, 0.0)
@@ -57,7 +57,7 @@ pub(crate) fn has_scores(h: TimingHypothesis) -> bool
 }
 
 // Whether a challenger is sound.
-pub(crate) fn is_hyp_sound(h: TimingHypothesis) -> bool
+pub fn is_hyp_sound(h: TimingHypothesis) -> bool
     ensures { λ r. ⌜ (r ≡ hypSound standard h) × (r ≡ true → Fit h) ⌝ }
 {
     let t = h.tracker;
