@@ -244,6 +244,15 @@ module _ (lo hi : Float) (t : Changed) (c : TimingBank) (gone : List Departure) 
         log = s .log;
       })
 
+  pub sift-few : g ≤ suc widest
+  sift-few =
+      let s = k .steady in
+      let n = s .crew .few in
+      let e = k .sum in
+      let f = k .few in
+      let u = k .upto in
+      omega arith
+
 -- ---- a loop that notes all of them: the first i are noted
 module _ (n : ℕ) (l : List TimingHypothesis) where
   pub record Noting (left : List Departure) (i : ℕ) : Type 0 where

@@ -10,3 +10,6 @@ pub mod Clearing
 pub mod Exchanging
 pub mod Reading
 pub mod Sounding
+pub mod Refusing
+pub mod Answering
+pub mod Beginning

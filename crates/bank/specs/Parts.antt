@@ -3,7 +3,7 @@ use mathlib.Core.Path.{_≡_}
 use mathlib.Core.Bool.{Bool, true, false}
 use mathlib.Core.Option.{Option, none, some}
 use mathlib.Core.List.{List, [], _∷_}
-use Prim.Native.Nat.{ℕ, _≤_, _<_}
+use Prim.Native.Nat.{ℕ, suc, _≤_, _<_}
 use lib.ListN.{length, take}
 use lib.Ieee.{Float}
 use Rattle.ranges.specs.Limits.{nought, scoreMin, durationMin, durationMax}
@@ -141,6 +141,12 @@ pub record Came (r : Changed) (m : Told) : Type 0 where
   pub sturdy : Sturdy (r .bank)
   pub few : r .«left_len» ≤ 1
   pub room : length (r .left) ≡ 9
+
+-- a bank and those that left it, as m says
+pub record Left (r : Changed) (m : Told) : Type 0 where
+  pub is : told r ≡ m
+  pub sturdy : Sturdy (r .bank)
+  pub few : r .«left_len» ≤ suc widest
 
 -- a bank with another streak, on a side
 abbrev pub withStreak : Bank → Bool → List Float → List Float → Bank

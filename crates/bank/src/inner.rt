@@ -2,11 +2,13 @@
 pub mod among;
 pub mod clear;
 pub mod every;
+pub mod fresh;
 pub mod gap;
 pub mod leave;
 pub mod mark;
 pub mod qualify;
 pub mod ready;
+pub mod refusals;
 pub mod sound;
 pub mod spawn;
 pub mod streak;

@@ -6,6 +6,7 @@ use tracker::Flag;
 use tracker::SpeedTracker;
 use tracker::Told;
 
+pub mod calls;
 pub mod inner;
 
 // A bank: a list is an array and a count, an optional number is a flag and a number.
@@ -66,11 +67,17 @@ pub enum Tally {
     Refused(u8),
 }
 
-// The answer of a call that tells of a challenger.
-pub enum Challenger {
-    Is(TimingHypothesis),
+// Whether there is one, or why it is not told.
+pub enum Place {
+    Held,
     Absent,
     Refused(u8),
+}
+
+// The answer of a call that tells of a challenger; where there is none, the hypothesis says nothing.
+pub struct Challenger {
+    pub place: Place,
+    pub hypothesis: TimingHypothesis,
 }
 
 // The answer of a call that tells of a switch record.
