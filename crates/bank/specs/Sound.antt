@@ -8,9 +8,8 @@ use lib.Ieee.{Float, eq}
 use Rattle.ranges.specs.Settings.{Settings}
 use Rattle.ranges.specs.Limits.{nought, scoreMin}
 use Rattle.ranges.specs.Interval.{within}
-use Rattle.tracker.specs.Model.{all}
+use Rattle.marks.specs.Lists.{all, duration, allDurations}
 use Rattle.tracker.specs.Model as Tracked
-use Rattle.tracker.specs.Sound.{duration, allDurations}
 use Rattle.tracker.specs.Sound as Tracking
 use Rattle.bank_model.specs.declared.SwitchRecord.{SwitchRecord}
 use Rattle.bank_model.specs.Scores.{lnDit, lnDah}
