@@ -4,7 +4,8 @@ ghost use mathlib.Core.Path.{_≡_};
 ghost use lib.Dec.{T};
 ghost use Rattle.ranges.specs.Settings.{standard};
 ghost use Rattle.tracker.specs.Model.{view};
-ghost use Rattle.tracker.specs.Sound.{duration, sound};
+ghost use Rattle.marks.specs.Lists.{duration};
+ghost use Rattle.tracker.specs.Sound.{sound};
 ghost use Rattle.tracker.specs.Steps.{onMark};
 
 // One mark, with no test of the tracker or the mark.

@@ -1,9 +1,9 @@
 // A tracker as it is printed: its parts in order, lists with their counts before them, absent numbers left out.
+use pair::ClusterPair;
 use replay::put_flag;
 use replay::put_float;
 use replay::put_word;
-use tracker::ClusterPair;
-use tracker::RingEntry;
+use ring::RingEntry;
 use tracker::SpeedTracker;
 
 // A count; none here is above 32 bits.
