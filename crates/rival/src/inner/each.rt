@@ -152,11 +152,12 @@ pub fn is_kept(h: TimingHypothesis, lo: f32, hi: f32, score: f32) -> bool
     requires { ⌜ Fit h ⌝ }
     ensures { λ r. ⌜ r ≡ isNone (causeAt standard score lo hi (viewHyp h)) ⌝ }
 {
+    let o = h.origin;
+    let safe = is_retained(o);
     if duplicates(h.ln_lo, h.ln_hi, lo, hi) {
         return false;
     }
-    let o = h.origin;
-    if is_retained(o) {
+    if safe {
         return true;
     }
     if score - h.score < 12.0 {
@@ -165,16 +166,16 @@ pub fn is_kept(h: TimingHypothesis, lo: f32, hi: f32, score: f32) -> bool
     false
 }
 
-// Why it leaves.
-pub fn why(h: TimingHypothesis, lo: f32, hi: f32, score: f32) -> Cause
+// Why it leaves, beside a primary of the score best.
+pub fn why(h: TimingHypothesis, lo: f32, hi: f32, best: f32) -> Cause
     requires { ⌜ Fit h ⌝ }
-    requires { ⌜ isNone (causeAt standard score lo hi (viewHyp h)) ≡ false ⌝ }
-    ensures { λ r. ⌜ some r ≡ causeAt standard score lo hi (viewHyp h) ⌝ }
+    requires { ⌜ isNone (causeAt standard best lo hi (viewHyp h)) ≡ false ⌝ }
+    ensures { λ r. ⌜ some r ≡ causeAt standard best lo hi (viewHyp h) ⌝ }
 {
     if duplicates(h.ln_lo, h.ln_hi, lo, hi) {
         return Cause::Twin;
     }
-    if score - h.score < 12.0 {
+    if best - h.score < 12.0 {
         return Cause::Aged;
     }
     Cause::Outscored
