@@ -104,11 +104,17 @@ module _ (t : SpeedTracker) (s : T (sound standard t)) (u : t .pair .ready ≡ t
   pub estimate-positive : T (positive (larger (ditEstimate standard (view t)) milli))
   estimate-positive = larger-positive _ (dit-positive _ (estimate-dit t s u))
 
+  pub dit-above : T (positive (t .pair .lo))
+  dit-above = dit-positive _ (ready-in standard (view t .pair) u (sound-fine standard t s .pair) .0)
+
+  pub dah-above : T (positive (t .pair .hi))
+  dah-above = dah-positive _ (ready-in standard (view t .pair) u (sound-fine standard t s .pair) .1)
+
   pub dit-log : T (positive (larger (t .pair .lo) milli))
-  dit-log = larger-positive _ (dit-positive _ (ready-in standard (view t .pair) u (sound-fine standard t s .pair) .0))
+  dit-log = larger-positive _ dit-above
 
   pub dah-log : T (positive (larger (t .pair .hi) milli))
-  dah-log = larger-positive _ (dah-positive _ (ready-in standard (view t .pair) u (sound-fine standard t s .pair) .1))
+  dah-log = larger-positive _ dah-above
 
 -- ---- trackers that a bank makes
 pub from-ready : (l g : List Float) → fromMarks standard l g .pair .ready ≡ true

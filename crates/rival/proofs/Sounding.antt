@@ -56,6 +56,16 @@ same-is (fin s m e) (fin t n d) p q h =
     let v = eqb→eq a b (both (eqb a b) (Bool·beq s t || eqb a 0) (k .0) .0) in
     value-unique binary32 (fin s m e) (fin t n d) s (m * up e) (down e) (down-pos e) p q (refl, refl) (sym (beq-is s t (k .1)), sym v)
 
+-- above zero there is one sign
+pub positive-is : (x y : Float) → T (fits binary32 x) → T (fits binary32 y) → T (positive x) → T (positive y) → eq x y ≡ true → x ≡ y
+positive-is nan y p q a b e = absurd a
+positive-is (inf s) y p q a b e = absurd a
+positive-is (fin true m d) y p q a b e = absurd a
+positive-is (fin false m d) nan p q a b e = absurd b
+positive-is (fin false m d) (inf t) p q a b e = absurd b
+positive-is (fin false m d) (fin true n c) p q a b e = absurd b
+positive-is (fin false m d) (fin false n c) p q a b e = same-is (fin false m d) (fin false n c) p q (join (eq (fin false m d) (fin false n c)) true (passed e) tt)
+
 pub same-self : (x : Float) → T (not (isNan x)) → T (same x x)
 unfolding eq isNan
 same-self nan p = absurd p

@@ -18,16 +18,32 @@ ghost use mathlib.Core.Path.{_≡_};
 ghost use mathlib.Core.Bool.{false};
 ghost use mathlib.Core.Option.{some};
 ghost use lib.Dec.{T};
+ghost use lib.Ieee.Positive.{positive};
 ghost use Rattle.numbers.specs.Log.{lnOf};
+ghost use Rattle.order.specs.Order.{larger};
 ghost use Rattle.ranges.specs.Settings.{standard};
 ghost use Rattle.tracker.specs.Model as Tracked;
 ghost use Rattle.tracker.specs.Steps as Tracking;
 ghost use Rattle.marks.specs.Lists.{duration};
 ghost use Rattle.tracker.specs.Sound.{sound};
+ghost use Rattle.bank_model.specs.Constants.{milli};
 ghost use Rattle.bank_model.specs.Model.{withTracker};
+ghost use Rattle.bank_model.specs.Scores.{logOf};
 ghost use Rattle.bank_model.specs.Steps.{marked, gapped, led, qualifies, eligible, causeAt};
 ghost use Rattle.rival.specs.View.{viewHyp};
 ghost use Rattle.rival.specs.Parts.{Fit, isNone};
+
+// The logarithm of a centroid, which is known where the centroid did not change.
+pub(crate) fn log_after(was: f32, ln: f32, is: f32) -> f32
+    requires { ⌜ ln ≡ logOf was ⌝ }
+    requires { ⌜ T (positive was) × (T (positive is) × T (positive (larger is milli))) ⌝ }
+    ensures { λ r. ⌜ r ≡ logOf is ⌝ }
+{
+    if is == was {
+        return ln;
+    }
+    log_of(is)
+}
 
 // The tracker learns a mark, and the logarithms follow.
 pub fn learn_one(h: TimingHypothesis, d: f32) -> TimingHypothesis
@@ -38,9 +54,10 @@ pub fn learn_one(h: TimingHypothesis, d: f32) -> TimingHypothesis
     let t = h.tracker;
     let v = on_mark(t, d);
     let u = settle(v);
-    let p = u.pair;
-    let lo = log_of(p.lo);
-    let hi = log_of(p.hi);
+    let p = t.pair;
+    let q = u.pair;
+    let lo = log_after(p.lo, h.ln_lo, q.lo);
+    let hi = log_after(p.hi, h.ln_hi, q.hi);
     TimingHypothesis {
         tracker: u,
         ln_lo: lo,
