@@ -22,6 +22,9 @@ use Rattle.bank_model.specs.Steps as Steps
 use Rattle.bank.specs.declared.TimingBank.{TimingBank}
 use Rattle.bank.specs.declared.Changed.{Changed}
 use Rattle.bank.specs.declared.Switched.{Switched}
+use Rattle.bank.specs.declared.Place.{Place}
+use Rattle.bank.specs.declared.Challenger.{Challenger}
+use Rattle.rival.specs.declared.TimingHypothesis.{TimingHypothesis}
 use Rattle.bank.specs.declared.inner.switch.Taken.{Taken}
 use Rattle.bank.specs.View.{view, told}
 use Rattle.bank.specs.Parts.{widest, Sturdy, Came, Left}
@@ -75,6 +78,10 @@ module _ {A : Type 0} where
   gone n l i h k =
       let m = length-take-le n l k in
       sym (ap (showing 0) (past (take n l) i (omega arith)))
+
+-- ---- the answer that tells of a challenger, from its place and what stands there
+pub told-of : (r : Challenger) (p : Place) (h : TimingHypothesis) → (r .place ≡ p) × (r .hypothesis ≡ h) → r ≡ record { place = p; hypothesis = h }
+told-of r p h k = ap (λ (x : Place). record { place = x; hypothesis = r .hypothesis }) (k .0) ∙ ap (λ (x : TimingHypothesis). record { place = p; hypothesis = x }) (k .1)
 
 -- ---- a start
 pub begins : (w : ℕ) (s : Bool) (r : TimingBank) → w ≤ widest → (view r ≡ Steps.freshBank w s) × Sturdy r → Started standard w s Done r

@@ -6,17 +6,17 @@ use mathlib.Core.Option.{Option, none, some}
 use Prim.Native.Nat.{ℕ, zero, suc, _≤_}
 use lib.Dec.{T, leb}
 use lib.ListN.{length}
-use lib.Ieee.{Float}
+use lib.Ieee.{Float, binary32, ofBits}
 use Rattle.ranges.specs.Limits.{durationRefusal}
 use Rattle.ranges.specs.Settings.{Settings}
 use Rattle.tracker.specs.declared.SpeedTracker.{SpeedTracker}
 use Rattle.tracker.specs.declared.Told.{Told}
 use Rattle.tracker.specs.declared.Flag.{Flag}
 use Rattle.tracker.specs.Model as Tracked
+use Rattle.tracker.specs.Parts.{blank}
 use Rattle.tracker.specs.Sound as Tracking
 use Rattle.tracker.specs.Answers.{Answer, done, flag, count, refused, ofTold, ofFlag, unless}
-use Rattle.bank_model.specs.declared.Cause.{Cause}
-use Rattle.bank_model.specs.declared.Cause.the-variants.{Twin, Outscored, Aged, Replaced, Cleared}
+use Rattle.bank_model.specs.declared.Origin.the-variants.{Bootstrap}
 use Rattle.bank_model.specs.declared.SwitchRecord.{SwitchRecord}
 use Rattle.bank_model.specs.Model as Model
 use Rattle.bank_model.specs.Steps as Steps
@@ -37,14 +37,6 @@ use Rattle.bank.specs.Sound.{sound}
 
 -- ---- the cases of each enum
 
--- the causes, in document 01's order: twin, outscored, aged, replaced, cleared
-abbrev pub ofCause : Cause → ℕ
-ofCause Twin = 0
-ofCause Outscored = 1
-ofCause Aged = 2
-ofCause Replaced = 3
-ofCause Cleared = 4
-
 abbrev pub ofTally : Tally → Answer
 ofTally (Tallies.Is n) = count n
 ofTally (Tallies.Refused n) = refused n
@@ -55,13 +47,25 @@ pub data Shown (A : Type 0) : Type 0 where
   nothing : Shown A
   barred : ℕ → Shown A
 
-abbrev pub placed : Place → TimingHypothesis → Shown TimingHypothesis
-placed Places.Held h = shown h
-placed Places.Absent h = nothing
-placed (Places.Refused n) h = barred n
+-- what stands where there is no challenger
+abbrev pub vacant : TimingHypothesis
+vacant = record {
+  tracker = blank;
+  score = ofBits binary32 0;
+  «gap_score» = ofBits binary32 0;
+  «lead_marks» = 0;
+  «age_marks» = 0;
+  origin = Bootstrap;
+  reported = false;
+  «ln_lo» = ofBits binary32 0;
+  «ln_hi» = ofBits binary32 0;
+  serial = 0;
+}
 
-abbrev pub ofChallenger : Challenger → Shown TimingHypothesis
-ofChallenger c = placed (c .place) (c .hypothesis)
+abbrev pub toldOf : Shown TimingHypothesis → Challenger
+toldOf (shown h) = record { place = Places.Held; hypothesis = h }
+toldOf nothing = record { place = Places.Absent; hypothesis = vacant }
+toldOf (barred n) = record { place = Places.Refused n; hypothesis = vacant }
 
 abbrev pub ofLogged : Logged → Shown SwitchRecord
 ofLogged (Records.Is r) = shown r

@@ -35,7 +35,7 @@ ghost use Rattle.bank_model.specs.Steps.{clear, freshBank, onGap, onMark, onRea
 ghost use Rattle.bank.specs.View.{view};
 ghost use Rattle.bank.specs.Parts.{widest};
 ghost use Rattle.bank.specs.Sound.{sound};
-ghost use Rattle.bank.specs.Answers.{Answers, Hears, Started, Switches, bankThen, clearRefusal, heardRefusal, ofChallenger, ofLogged, ofTally, readyRefusal, showing, switchRefusal, widthRefusal};
+ghost use Rattle.bank.specs.Answers.{Answers, Hears, Started, Switches, bankThen, clearRefusal, heardRefusal, ofLogged, ofTally, readyRefusal, showing, switchRefusal, toldOf};
 
 impl TimingBank {
     // A fresh bank; one of width 1 that does not switch, where the width is above 8.
@@ -87,7 +87,7 @@ impl TimingBank {
 
     // The i-th challenger, in bank order.
     pub fn challenger(self, i: usize) -> Challenger
-        ensures { λ r. ⌜ ofChallenger r ≡ showing (bankThen standard self 0) (getElem? (take (self .«challengers_len») (self .challengers)) i) ⌝ }
+        ensures { λ r. ⌜ r ≡ toldOf (showing (bankThen standard self 0) (getElem? (take (self .«challengers_len») (self .challengers)) i)) ⌝ }
     {
         if is_sound(self) {
             if i < self.challengers_len {

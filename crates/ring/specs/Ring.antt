@@ -58,7 +58,7 @@ strays m l = lt (deviation m (durations l)) cvMax && lt offFrac (offset m (ancho
 abbrev pub drifts : List RingEntry → Bool
 drifts l = strays (mean64 (durations l)) l
 
--- "no gap centroid below 0.57735 times the ring's fourth least" (`streak_marks_are_dahs` is its contrary)
+-- there is a "gap centroid below 0.57735 times the ring's fourth least" (`streak_marks_are_dahs`); fragment recovery asks that there is none
 abbrev pub gapSaysDahs : Option Float → List RingEntry → Bool
 gapSaysDahs none l = false
 gapSaysDahs (some g) l = lt g (mul binary32 dahGapFrac (getD (sorted (durations l)) 3 nan))

@@ -67,7 +67,7 @@ averaged (some w) raw = average binary32 speedWeight w raw
 abbrev pub bound : Settings → Tracker → Tracker
 bound k t = withPair t (constrained k (t .hint) (t .pair))
 
--- a new lock from marks: nothing of the old speed stays, and the regime count goes up by one and wraps
+-- a new lock from marks: the ring and the gap centroid begin anew, and the regime count goes up by one and wraps; the speed average, the recent marks and the hint stay
 abbrev pub relocked : Settings → Tracker → List Float → Tracker
 relocked k t marks =
     let u = bound k (withPair t (initialized k marks)) in

@@ -11,9 +11,12 @@ ghost use Prim.Native.Nat.{_≤_};
 ghost use Rattle.bank_model.specs.Steps.{freshBank};
 ghost use Rattle.bank.specs.View.{view};
 ghost use Rattle.bank.specs.Parts.{widest, Sturdy};
+ghost use Rattle.bank.specs.Answers.{vacant};
 
 // What stands in a place that no challenger has.
-pub(crate) fn vacant() -> TimingHypothesis {
+pub(crate) fn vacant() -> TimingHypothesis
+    ensures { λ r. ⌜ r ≡ vacant ⌝ }
+{
     TimingHypothesis {
         tracker: SpeedTracker::new(),
         score: 0.0,
@@ -30,7 +33,7 @@ pub(crate) fn vacant() -> TimingHypothesis {
 
 // The answer that there is no challenger.
 pub(crate) fn no_challenger(place: Place) -> Challenger
-    ensures { λ r. ⌜ r .place ≡ place ⌝ }
+    ensures { λ r. ⌜ (r .place ≡ place) × (r .hypothesis ≡ vacant) ⌝ }
 {
     let hypothesis = vacant();
     Challenger { place, hypothesis }
