@@ -1,3 +1,4 @@
 pub mod Answers
 pub mod Classes
 pub mod Handing
+pub mod Banking

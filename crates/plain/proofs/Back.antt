@@ -14,7 +14,7 @@ use Rattle.bank_model.specs.declared.Departure.{Departure}
 use Rattle.bank.specs.declared.TimingHypothesis.{TimingHypothesis}
 use Rattle.bank.specs.declared.TimingBank.{TimingBank}
 use Rattle.bank.specs.Parts.{restocked}
-use Rattle.plain.specs.Plain.{originCode, retained, originOf, causeCode, plainHyp, hypOf, plainBank, bankOf, named, isBank}
+use Rattle.plain.specs.Plain.{originCode, retained, originOf, causeCode, causeOf, plainDeparture, departureOf, departures, plainHyp, hypOf, plainBank, bankOf, named, isBank}
 
 origin-back : (o : Origin) → originOf (originCode o) (retained o) ≡ o
 origin-back Bootstrap = refl
@@ -64,3 +64,23 @@ all-named (suc n) (h ∷ hs) = rw (origin-named h, all-named n hs)
 pub bank-named : (b : TimingBank) → isBank (plainBank b) ≡ true
 unfolding isBank
 bank-named b = all-named (b .«challengers_len») (b .challengers)
+
+cause-back : (c : Cause) → causeOf (causeCode c) ≡ c
+cause-back Twin = refl
+cause-back Outscored = refl
+cause-back Aged = refl
+cause-back Replaced = refl
+cause-back Cleared = refl
+
+gone : ℕ → Cause → Departure
+gone n c = record { serial = n; cause = c }
+
+departure-back : (d : Departure) → departureOf (plainDeparture d) ≡ d
+unfolding gone
+departure-back d = ap (gone (d .serial)) (cause-back (d .cause))
+
+-- those that left come back too
+pub departures-back : (l : List Departure) (n : ℕ) → departures (map plainDeparture l) n ≡ take n l
+departures-back l zero = refl
+departures-back [] (suc n) = refl
+departures-back (d ∷ ds) (suc n) = ap (λ (e : Departure). e ∷ departures (map plainDeparture ds) n) (departure-back d) ∙ ap (λ (r : List Departure). d ∷ r) (departures-back ds n)

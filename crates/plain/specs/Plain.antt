@@ -40,6 +40,10 @@ causeCode Aged = 2
 causeCode Replaced = 3
 causeCode Cleared = 4
 
+-- the cause of a number
+abbrev pub causeOf : ℕ → Cause
+causeOf n = cond (eqb n 0) Twin (cond (eqb n 1) Outscored (cond (eqb n 2) Aged (cond (eqb n 3) Replaced Cleared)))
+
 abbrev pub plainHyp : TimingHypothesis → PlainHypothesis
 plainHyp h = record {
   tracker = h .tracker;
@@ -129,3 +133,10 @@ isBank p = all named (take (p .«challengers_len») (p .challengers))
 
 abbrev pub plainDeparture : Departure → PlainDeparture
 plainDeparture d = record { serial = d .serial; cause = causeCode (d .cause) }
+
+abbrev pub departureOf : PlainDeparture → Departure
+departureOf d = record { serial = d .serial; cause = causeOf (d .cause) }
+
+-- those that left, of an array and a count
+abbrev pub departures : List PlainDeparture → ℕ → List Departure
+departures l n = map departureOf (take n l)
