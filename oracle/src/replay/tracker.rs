@@ -10,7 +10,7 @@
 use super::{float, Files};
 use crate::compare::Layer;
 use crate::hullathan::tracker::SpeedTracker as Plain;
-use crate::layers::tracker::{random_case, Both, Call, Part, Told, Tracker, PARTS};
+use crate::layers::tracker::{parts, random_case, Both, Call, Told, Tracker, PARTS};
 use crate::random::Random;
 use crate::shrink::{shrink, smaller_list};
 use std::collections::BTreeSet;
@@ -163,43 +163,6 @@ fn reaches(calls: &Vec<Call>) -> BTreeSet<usize> {
     Tracker::run(calls).expect("no difference");
     let after = counts().zip(before).map(|(b, a)| b > a);
     after.enumerate().filter(|x| x.1).map(|x| x.0).collect()
-}
-
-/// A tracker that is handed in, part for part, onto a fresh one.
-fn parts(t: &Plain) -> Vec<Call> {
-    let p = &t.pair;
-    let bits = |v: f32| if v.is_nan() { 0x7FC0_0000 } else { v.to_bits() };
-    let mut all = vec![Call::Fresh];
-    let mut put = |part, i: usize, v: u32| all.push(Call::Set(part, i as u8, v));
-    put(Part::Lo, 0, bits(p.lo));
-    put(Part::Hi, 0, bits(p.hi));
-    put(Part::InitLen, 0, p.init_len as u32);
-    put(Part::Ready, 0, u32::from(p.ready));
-    put(Part::Confirmed, 0, u32::from(p.confirmed));
-    put(Part::PlaceholderIsLo, 0, u32::from(p.placeholder_is_lo));
-    put(Part::LoN, 0, p.lo_n as u32);
-    put(Part::RingLen, 0, t.ring_len as u32);
-    for i in 0..12 {
-        put(Part::Init, i, bits(p.init[i]));
-        put(Part::RingDur, i, bits(t.ring[i].dur_ms));
-        put(Part::RingDit, i, u32::from(t.ring[i].assigned_dit));
-        put(Part::RingLo, i, bits(t.ring[i].pre_lo));
-        put(Part::RingHi, i, bits(t.ring[i].pre_hi));
-    }
-    put(Part::HasWpm, 0, u32::from(t.has_wpm));
-    put(Part::Wpm, 0, bits(t.wpm_ema));
-    put(Part::RecentLen, 0, t.recent_len as u32);
-    for i in 0..5 {
-        put(Part::Recent, i, bits(t.recent[i]));
-    }
-    put(Part::HasEgap, 0, u32::from(t.has_egap));
-    put(Part::Egap, 0, bits(t.mu_egap_ms));
-    put(Part::HasHint, 0, u32::from(t.has_hint));
-    put(Part::Hint, 0, bits(t.ratio_hint));
-    put(Part::Regime, 0, t.regime);
-    put(Part::Recovered, 0, u32::from(t.badlock_recovered));
-    put(Part::Uncorroborated, 0, u32::from(t.lo_uncorroborated));
-    all
 }
 
 /// Without trackers handed in whole.
