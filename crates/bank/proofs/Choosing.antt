@@ -14,7 +14,8 @@ use Rattle.bank_model.specs.Model.{Hyp, Bank, withChallengers}
 use Rattle.bank_model.specs.Steps.{place, eligible, qualifies, leastFrom, highestFrom, led, qualified}
 use Rattle.bank_model.proofs.Places.{Before, least-before, highest-before}
 use Rattle.bank.specs.declared.TimingBank.{TimingBank}
-use Rattle.bank.specs.View.{given, viewHyp, view}
+use Rattle.rival.specs.View.{viewHyp}
+use Rattle.bank.specs.View.{given, view}
 use Rattle.bank.specs.Parts.{Crew, Restocked, Steady, Sturdy}
 use Rattle.bank.proofs.Lists.{view-length}
 use Rattle.bank.proofs.Stock.{room, restocked-view, restocked-steady}

@@ -14,10 +14,11 @@ use Rattle.bank_model.specs.Model.{Bank, Told, stay}
 use Rattle.bank_model.specs.Steps.{clearedOut, goneCleared, clear}
 use Rattle.bank_model.proofs.Scoring.{zero-in}
 use Rattle.bank.specs.declared.TimingBank.{TimingBank}
-use Rattle.bank.specs.declared.TimingHypothesis.{TimingHypothesis}
+use Rattle.rival.specs.declared.TimingHypothesis.{TimingHypothesis}
 use Rattle.bank.specs.declared.Changed.{Changed}
 use Rattle.bank.specs.View.{view, told}
-use Rattle.bank.specs.Parts.{Fit, Sturdy}
+use Rattle.rival.specs.Parts.{Fit}
+use Rattle.bank.specs.Parts.{Sturdy}
 use Rattle.bank.proofs.Lists.{all-none}
 
 -- an empty bank

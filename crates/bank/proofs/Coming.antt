@@ -19,11 +19,13 @@ use Rattle.bank_model.specs.declared.Departure.{Departure}
 use Rattle.bank_model.specs.Model.{Hyp, Bank, Told, stay, following, withNew}
 use Rattle.bank_model.specs.Scores.{lnDit, lnDah, twins}
 use Rattle.bank_model.specs.Steps.{anyTwin, duplicateAt, newborn, pushed, replacedBy, replacing, place, victim, eligible, leastFrom, roomy, spawnedAt}
-use Rattle.bank.specs.declared.TimingHypothesis.{TimingHypothesis}
+use Rattle.rival.specs.declared.TimingHypothesis.{TimingHypothesis}
 use Rattle.bank.specs.declared.TimingBank.{TimingBank}
 use Rattle.bank.specs.declared.Changed.{Changed}
-use Rattle.bank.specs.View.{viewHyp, viewAll, view, told}
-use Rattle.bank.specs.Parts.{All, widest, Fit, Crew, Sturdy, Came}
+use Rattle.rival.specs.View.{viewHyp}
+use Rattle.bank.specs.View.{viewAll, view, told}
+use Rattle.rival.specs.Parts.{Fit}
+use Rattle.bank.specs.Parts.{All, widest, Crew, Sturdy, Came}
 use Rattle.bank.proofs.Lists.{all-append, put-at-end, map-set, map-snoc, view-length, view-at}
 use Rattle.bank.proofs.Stock.{room, crew-set}
 

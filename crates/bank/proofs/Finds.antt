@@ -11,9 +11,9 @@ use Rattle.bank_model.specs.declared.Best.{Best}
 use Rattle.bank_model.specs.Model.{Hyp}
 use Rattle.bank_model.specs.Scores.{lnDit, lnDah, twins}
 use Rattle.bank_model.specs.Steps.{lesser, higher, leastFrom, highestFrom, anyTwin, greatestUnit}
-use Rattle.bank.specs.declared.TimingHypothesis.{TimingHypothesis}
-use Rattle.bank.specs.View.{viewHyp}
-use Rattle.bank.specs.Parts.{Fit}
+use Rattle.rival.specs.declared.TimingHypothesis.{TimingHypothesis}
+use Rattle.rival.specs.View.{viewHyp}
+use Rattle.rival.specs.Parts.{Fit}
 
 pub least-step : (q : Hyp → Bool) (i : ℕ) (h : Hyp) (acc acc' : Best) (r : List Hyp) → acc' ≡ cond (q h) (lesser i (h .score) acc) acc → leastFrom q i acc (h ∷ r) ≡ leastFrom q (suc i) acc' r
 unfolding leastFrom

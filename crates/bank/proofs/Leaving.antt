@@ -16,11 +16,13 @@ use Rattle.bank_model.specs.declared.Cause.the-variants.{Cleared}
 use Rattle.bank_model.specs.declared.Departure.{Departure}
 use Rattle.bank_model.specs.Model.{Hyp, Bank, Told, andThen, withChallengers}
 use Rattle.bank_model.specs.Steps.{causeAt, stayIf, leaveIf, staying, leaving, prunedAt, goneCleared}
-use Rattle.bank.specs.declared.TimingHypothesis.{TimingHypothesis}
+use Rattle.rival.specs.declared.TimingHypothesis.{TimingHypothesis}
 use Rattle.bank.specs.declared.TimingBank.{TimingBank}
 use Rattle.bank.specs.declared.Changed.{Changed}
-use Rattle.bank.specs.View.{viewHyp, viewAll, view, told}
-use Rattle.bank.specs.Parts.{All, widest, isNone, Fit, Crew, restocked, Steady}
+use Rattle.rival.specs.View.{viewHyp}
+use Rattle.bank.specs.View.{viewAll, view, told}
+use Rattle.rival.specs.Parts.{isNone, Fit}
+use Rattle.bank.specs.Parts.{All, widest, Crew, restocked, Steady}
 use Rattle.bank.proofs.Lists.{all-at, all-append, all-none, put-at-end, append-nil, map-snoc, view-length, view-at}
 use Rattle.bank.proofs.Stock.{member, room}
 
@@ -241,6 +243,15 @@ module _ (lo hi : Float) (t : Changed) (c : TimingBank) (gone : List Departure) 
         lastGap = s .lastGap;
         log = s .log;
       })
+
+  pub sift-few : g ≤ suc widest
+  sift-few =
+      let s = k .steady in
+      let n = s .crew .few in
+      let e = k .sum in
+      let f = k .few in
+      let u = k .upto in
+      omega arith
 
 -- ---- a loop that notes all of them: the first i are noted
 module _ (n : ℕ) (l : List TimingHypothesis) where

@@ -1,4 +1,3 @@
-pub mod Each
 pub mod Finds
 pub mod Lists
 pub mod Stock
@@ -8,5 +7,9 @@ pub mod Choosing
 pub mod Streaking
 pub mod Hearing
 pub mod Clearing
-pub mod Switched
+pub mod Exchanging
 pub mod Reading
+pub mod Sounding
+pub mod Refusing
+pub mod Answering
+pub mod Beginning

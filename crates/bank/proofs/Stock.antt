@@ -6,10 +6,12 @@ use Prim.Native.Nat.{ℕ, _+_, _≤_, _<_}
 use native.Mathlib.Omega.{arith}
 use lib.ListN.{length, take, getD, set, length-set}
 use Rattle.bank_model.specs.Model.{Hyp, Bank, withChallengers}
-use Rattle.bank.specs.declared.TimingHypothesis.{TimingHypothesis}
+use Rattle.rival.specs.declared.TimingHypothesis.{TimingHypothesis}
 use Rattle.bank.specs.declared.TimingBank.{TimingBank}
-use Rattle.bank.specs.View.{viewHyp, viewAll, view}
-use Rattle.bank.specs.Parts.{widest, Fit, Crew, restocked, Restocked, Steady}
+use Rattle.rival.specs.View.{viewHyp}
+use Rattle.bank.specs.View.{viewAll, view}
+use Rattle.rival.specs.Parts.{Fit}
+use Rattle.bank.specs.Parts.{widest, Crew, restocked, Restocked, Steady}
 use Rattle.bank.proofs.Lists.{upTo, upTo-zero, all-set, all-at, turn, done}
 
 -- a crew's member

@@ -3,21 +3,18 @@ use mathlib.Core.Path.{_≡_}
 use mathlib.Core.Bool.{Bool, true, false}
 use mathlib.Core.Option.{Option, none, some}
 use mathlib.Core.List.{List, [], _∷_}
-use Prim.Native.Nat.{ℕ, _≤_, _<_}
-use lib.Dec.{T}
+use Prim.Native.Nat.{ℕ, suc, _≤_, _<_}
 use lib.ListN.{length, take}
 use lib.Ieee.{Float}
-use Rattle.ranges.specs.Settings.{standard}
 use Rattle.ranges.specs.Limits.{nought, scoreMin, durationMin, durationMax}
 use Rattle.ranges.specs.Interval.{In, AllIn}
-use Rattle.tracker.specs.Sound as Tracking
 use Rattle.bank_model.specs.declared.SwitchRecord.{SwitchRecord}
-use Rattle.bank_model.specs.Scores.{lnDit, lnDah}
-use Rattle.bank.specs.declared.TimingHypothesis.{TimingHypothesis}
+use Rattle.rival.specs.declared.TimingHypothesis.{TimingHypothesis}
 use Rattle.bank.specs.declared.TimingBank.{TimingBank}
 use Rattle.bank_model.specs.Model.{Hyp, Bank, Told, withEvidence}
 use Rattle.bank.specs.declared.Changed.{Changed}
-use Rattle.bank.specs.View.{viewHyp, viewAll, told}
+use Rattle.rival.specs.Parts.{Fit}
+use Rattle.bank.specs.View.{viewAll, told}
 
 -- "the widest bank"
 abbrev pub widest : ℕ
@@ -28,25 +25,11 @@ unfoldable pub All : {A : Type 0} → (A → Type 0) → List A → Type 0
 All P [] = Unit {0}
 All P (x ∷ xs) = P x × All P xs
 
--- a challenger: a sound tracker that is ready, its logarithms, scores from -30 to 0
-pub record Fit (h : TimingHypothesis) : Type 0 where
-  pub tracker : T (Tracking.sound standard (h .tracker))
-  pub ready : h .tracker .pair .ready ≡ true
-  pub lnLo : h .«ln_lo» ≡ lnDit (viewHyp h .tracker)
-  pub lnHi : h .«ln_hi» ≡ lnDah (viewHyp h .tracker)
-  pub score : In scoreMin nought (h .score)
-  pub gapScore : In scoreMin nought (h .«gap_score»)
-
 -- the first n places of an array of challengers
 pub record Crew (n : ℕ) (l : List TimingHypothesis) : Type 0 where
   pub few : n ≤ widest
   pub long : length l ≡ widest
   pub each : All Fit (take n l)
-
--- there is none
-abbrev pub isNone : {A : Type 0} → Option A → Bool
-isNone none = true
-isNone (some x) = false
 
 -- a bank with other challengers in its array
 abbrev pub restocked : TimingBank → List TimingHypothesis → TimingBank
@@ -158,6 +141,12 @@ pub record Came (r : Changed) (m : Told) : Type 0 where
   pub sturdy : Sturdy (r .bank)
   pub few : r .«left_len» ≤ 1
   pub room : length (r .left) ≡ 9
+
+-- a bank and those that left it, as m says
+pub record Left (r : Changed) (m : Told) : Type 0 where
+  pub is : told r ≡ m
+  pub sturdy : Sturdy (r .bank)
+  pub few : r .«left_len» ≤ suc widest
 
 -- a bank with another streak, on a side
 abbrev pub withStreak : Bank → Bool → List Float → List Float → Bank

@@ -1,31 +1,15 @@
 -- What makes a bank sound (document 01, refusal 1). Definitions only.
-use mathlib.Core.Bool.{Bool, true, false, cond, not, _&&_}
-use mathlib.Core.List.{List, [], _∷_}
+use mathlib.Core.Bool.{Bool, true, cond, _&&_}
 use Prim.Native.Nat.{ℕ}
 use lib.Dec.{leb, ltb}
-use lib.ListN.{length, take}
-use lib.Ieee.{Float, eq}
+use lib.ListN.{take}
+use lib.Ieee.{Float}
 use Rattle.ranges.specs.Settings.{Settings}
-use Rattle.ranges.specs.Limits.{nought, scoreMin}
-use Rattle.ranges.specs.Interval.{within}
 use Rattle.tracker.specs.Model.{all}
-use Rattle.tracker.specs.Model as Tracked
 use Rattle.tracker.specs.Sound.{duration, allDurations}
-use Rattle.tracker.specs.Sound as Tracking
 use Rattle.bank_model.specs.declared.SwitchRecord.{SwitchRecord}
-use Rattle.bank_model.specs.Scores.{lnDit, lnDah}
-use Rattle.bank.specs.declared.TimingHypothesis.{TimingHypothesis}
+use Rattle.rival.specs.Sound.{score, hypSound}
 use Rattle.bank.specs.declared.TimingBank.{TimingBank}
-
--- "a score outside -30 to 0"
-abbrev pub score : Float → Bool
-score s = within scoreMin nought s
-
--- "one unready, or one holding other logarithms than its centroids have", and its tracker and scores
-abbrev pub hypSound : Settings → TimingHypothesis → Bool
-hypSound k h =
-    let t = Tracked.view (h .tracker) in
-    Tracking.sound k (h .tracker) && (t .pair .ready && ((eq (h .«ln_lo») (lnDit t) && eq (h .«ln_hi») (lnDah t)) && (score (h .score) && score (h .«gap_score»))))
 
 -- "a held duration that 5 to 7 would refuse": the dits of a switch record
 abbrev pub recordSound : SwitchRecord → Bool
@@ -37,22 +21,29 @@ counted n b = leb (b .«challengers_len») n && (leb (b .«streak_len») 4 && (l
 
 -- "width 0 or above 8; challengers not below the width"
 abbrev pub widthSound : ℕ → TimingBank → Bool
-widthSound n b = (leb 1 (b .width) && leb (b .width) n) && ltb (b .«challengers_len») (b .width)
+widthSound n b = leb 1 (b .width) && (leb (b .width) n && ltb (b .«challengers_len») (b .width))
 
 -- "a pending index not below the challenger count"
 abbrev pub pendingSound : TimingBank → Bool
 pendingSound b = cond (b .«has_pending») (ltb (b .pending) (b .«challengers_len»)) true
 
+-- a held gap, where there is one
+abbrev pub gapSound : Bool → Float → Bool
+gapSound has gap = cond has (duration gap) true
+
 -- "more streak gaps than streak marks", and held durations
 abbrev pub streakSound : TimingBank → Bool
 streakSound b =
     leb (b .«streak_gaps_len») (b .«streak_len»)
-    && (allDurations (take (b .«streak_len») (b .streak)) && (allDurations (take (b .«streak_gaps_len») (b .«streak_gaps»)) && cond (b .«has_last_gap») (duration (b .«last_gap»)) true))
+    && (allDurations (take (b .«streak_len») (b .streak)) && (allDurations (take (b .«streak_gaps_len») (b .«streak_gaps»)) && gapSound (b .«has_last_gap») (b .«last_gap»)))
+
+abbrev pub primarySound : TimingBank → Bool
+primarySound b = score (b .«primary_score») && score (b .«primary_gap_score»)
+
+-- the choice, the streak, the primary's scores and the log
+abbrev pub restSound : TimingBank → Bool
+restSound b = pendingSound b && (streakSound b && (primarySound b && all recordSound (take (b .«log_len») (b .log))))
 
 -- refusal 1 says of a bank that this is false; n is the widest bank
 unfoldable pub sound : Settings → ℕ → TimingBank → Bool
-sound k n b =
-    counted n b
-    && (widthSound n b
-    && (all (hypSound k) (take (b .«challengers_len») (b .challengers))
-    && (pendingSound b && (streakSound b && ((score (b .«primary_score») && score (b .«primary_gap_score»)) && all recordSound (take (b .«log_len») (b .log)))))))
+sound k n b = counted n b && (widthSound n b && (all (hypSound k) (take (b .«challengers_len») (b .challengers)) && restSound b))

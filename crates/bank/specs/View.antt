@@ -4,10 +4,9 @@ use mathlib.Core.List.{List, map}
 use mathlib.Core.Option.{Option, none, some}
 use Prim.Native.Nat.{ℕ}
 use lib.ListN.{take}
-use lib.Ieee.{Float}
-use Rattle.tracker.specs.Model as Tracked
 use Rattle.bank_model.specs.Model.{Hyp, Evidence, Bank, Told}
-use Rattle.bank.specs.declared.TimingHypothesis.{TimingHypothesis}
+use Rattle.rival.specs.declared.TimingHypothesis.{TimingHypothesis}
+use Rattle.rival.specs.View.{viewHyp}
 use Rattle.bank.specs.declared.TimingBank.{TimingBank}
 use Rattle.bank.specs.declared.Changed.{Changed}
 
@@ -15,19 +14,6 @@ use Rattle.bank.specs.declared.Changed.{Changed}
 abbrev pub given : {A : Type 0} → Bool → A → Option A
 given true x = some x
 given false x = none
-
--- its logarithms are no part of it: in a sound bank they are those of its tracker
-abbrev pub viewHyp : TimingHypothesis → Hyp
-viewHyp h = record {
-  tracker = Tracked.view (h .tracker);
-  score = h .score;
-  gap-score = h .«gap_score»;
-  lead = h .«lead_marks»;
-  age = h .«age_marks»;
-  origin = h .origin;
-  reported = h .reported;
-  serial = h .serial;
-}
 
 abbrev pub viewAll : ℕ → List TimingHypothesis → List Hyp
 viewAll n l = map viewHyp (take n l)

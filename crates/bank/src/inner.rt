@@ -1,13 +1,15 @@
 // What the calls do, for banks that are sound: each function asks what it needs.
 pub mod among;
 pub mod clear;
-pub mod each;
 pub mod every;
+pub mod fresh;
 pub mod gap;
 pub mod leave;
 pub mod mark;
 pub mod qualify;
 pub mod ready;
+pub mod refusals;
+pub mod sound;
 pub mod spawn;
 pub mod streak;
 pub mod switch;

@@ -1,24 +1,13 @@
 // The bank of rivals of document 01, "TimingBank".
 use bank_model::Departure;
-use bank_model::Origin;
 use bank_model::SwitchRecord;
+use rival::TimingHypothesis;
+use tracker::Flag;
 use tracker::SpeedTracker;
+use tracker::Told;
 
+pub mod calls;
 pub mod inner;
-
-// One challenger: its tracker, its scores, its bookkeeping, the logarithms of its centroids, and its serial.
-pub struct TimingHypothesis {
-    pub tracker: SpeedTracker,
-    pub score: f32,
-    pub gap_score: f32,
-    pub lead_marks: u32,
-    pub age_marks: u32,
-    pub origin: Origin,
-    pub reported: bool,
-    pub ln_lo: f32,
-    pub ln_hi: f32,
-    pub serial: u64,
-}
 
 // A bank: a list is an array and a count, an optional number is a flag and a number.
 pub struct TimingBank {
@@ -50,4 +39,50 @@ pub struct Changed {
     pub bank: TimingBank,
     pub left: [Departure; 9],
     pub left_len: usize,
+}
+
+// The answer of a call that may send challengers away, and what it changed.
+pub struct Answered {
+    pub told: Told,
+    pub changed: Changed,
+}
+
+// The answer of a call that none leaves at, and the bank that is handed back.
+pub struct Heard {
+    pub told: Told,
+    pub bank: TimingBank,
+}
+
+// The answer of a switch call: whether the two were exchanged, the bank, the primary, and the primary's serial.
+pub struct Switched {
+    pub flag: Flag,
+    pub bank: TimingBank,
+    pub primary: SpeedTracker,
+    pub serial: u64,
+}
+
+// The answer of a call that tells a count.
+pub enum Tally {
+    Is(u64),
+    Refused(u8),
+}
+
+// Whether there is one, or why it is not told.
+pub enum Place {
+    Held,
+    Absent,
+    Refused(u8),
+}
+
+// The answer of a call that tells of a challenger; where there is none, the hypothesis says nothing.
+pub struct Challenger {
+    pub place: Place,
+    pub hypothesis: TimingHypothesis,
+}
+
+// The answer of a call that tells of a switch record.
+pub enum Logged {
+    Is(SwitchRecord),
+    Absent,
+    Refused(u8),
 }

@@ -1,20 +1,21 @@
 // What is found among the challengers.
 use crate::TimingBank;
-use crate::TimingHypothesis;
-use crate::inner::each::is_eligible;
-use crate::inner::each::is_qualified;
 use bank_model::Best;
 use bank_model::inner::best::highest_of;
 use bank_model::inner::best::least_of;
 use bank_model::inner::scores::duplicates;
 use order::max32;
+use rival::TimingHypothesis;
+use rival::inner::each::is_eligible;
+use rival::inner::each::is_qualified;
 use tracker::inner::speed::dit_estimate;
 ghost use mathlib.Core.Path.{_≡_};
 ghost use mathlib.Core.Bool.{cond};
 ghost use Rattle.ranges.specs.Settings.{standard};
 ghost use Rattle.bank_model.specs.declared.Best.the-variants.{Unfound};
 ghost use Rattle.bank_model.specs.Steps.{lesser, higher, eligible, qualifies, leastFrom, highestFrom, anyTwin, greatestUnit};
-ghost use Rattle.bank.specs.View.{viewHyp, view};
+ghost use Rattle.rival.specs.View.{viewHyp};
+ghost use Rattle.bank.specs.View.{view};
 ghost use Rattle.bank.specs.Parts.{Crew};
 
 // The greatest of u and the challengers' dit estimates.

@@ -3,15 +3,14 @@ use crate::Changed;
 use crate::TimingBank;
 use crate::inner::leave::all_cleared;
 use crate::inner::leave::unchanged;
-ghost use mathlib.Core.Path.{_≡_};
 ghost use Rattle.bank_model.specs.Steps.{clear};
-ghost use Rattle.bank.specs.View.{view, told};
-ghost use Rattle.bank.specs.Parts.{Sturdy};
+ghost use Rattle.bank.specs.View.{view};
+ghost use Rattle.bank.specs.Parts.{Sturdy, Left};
 
 // Every challenger leaves, with all evidence and the choice.
 pub fn clear(b: TimingBank) -> Changed
     requires { ⌜ Sturdy b ⌝ }
-    ensures { λ r. ⌜ (told r ≡ clear (view b)) × Sturdy (r .bank) ⌝ }
+    ensures { λ r. ⌜ Left r (clear (view b)) ⌝ }
 {
     if b.width < 2 {
         return unchanged(b);

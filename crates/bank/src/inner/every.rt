@@ -1,8 +1,8 @@
 // A mark, a gap or a new lead, for every challenger.
 use crate::TimingBank;
-use crate::inner::each::gap_one;
-use crate::inner::each::lead_one;
-use crate::inner::each::mark_one;
+use rival::inner::each::gap_one;
+use rival::inner::each::lead_one;
+use rival::inner::each::mark_one;
 ghost use mathlib.Core.Path.{_≡_};
 ghost use mathlib.Core.List.{map};
 ghost use lib.Dec.{T};

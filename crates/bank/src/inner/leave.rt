@@ -1,19 +1,19 @@
 // Who leaves: `prune`, and what a clear tells.
 use crate::Changed;
 use crate::TimingBank;
-use crate::inner::each::is_kept;
-use crate::inner::each::why;
 use bank_model::Cause;
 use bank_model::Departure;
+use rival::inner::each::is_kept;
+use rival::inner::each::why;
 ghost use mathlib.Core.Path.{_≡_};
 ghost use mathlib.Core.List.{map};
-ghost use Prim.Native.Nat.{_≤_};
+ghost use Prim.Native.Nat.{suc, _≤_};
 ghost use lib.ListN.{length, take};
 ghost use Rattle.ranges.specs.Settings.{standard};
 ghost use Rattle.bank_model.specs.Model.{stay, andThen};
 ghost use Rattle.bank_model.specs.Steps.{prunedAt, goneCleared};
 ghost use Rattle.bank.specs.View.{view, told};
-ghost use Rattle.bank.specs.Parts.{Crew, Steady};
+ghost use Rattle.bank.specs.Parts.{widest, Crew, Steady};
 
 // No one leaves.
 pub(crate) fn nobody() -> [Departure; 9]
@@ -42,7 +42,7 @@ pub(crate) fn unchanged(b: TimingBank) -> Changed
 pub(crate) fn prune(t: Changed, lo: f32, hi: f32) -> Changed
     requires { ⌜ Steady (t .bank) ⌝ }
     requires { ⌜ (t .«left_len» ≤ 1) × (length (t .left) ≡ 9) ⌝ }
-    ensures { λ r. ⌜ (told r ≡ andThen (told t) (prunedAt standard lo hi)) × Steady (r .bank) ⌝ }
+    ensures { λ r. ⌜ (told r ≡ andThen (told t) (prunedAt standard lo hi)) × (Steady (r .bank) × (r .«left_len» ≤ suc widest)) ⌝ }
 {
     let mut c = t.bank;
     let mut left = t.left;

@@ -21,8 +21,8 @@ ghost use Rattle.tracker.specs.Model as Tracked;
 ghost use Rattle.tracker.specs.Sound.{duration, sound};
 ghost use Rattle.bank_model.specs.Scores.{lnDit, lnDah};
 ghost use Rattle.bank_model.specs.Steps.{scored, markedTold, heardMark, onMark};
-ghost use Rattle.bank.specs.View.{view, told};
-ghost use Rattle.bank.specs.Parts.{Sturdy, Countable, Came};
+ghost use Rattle.bank.specs.View.{view};
+ghost use Rattle.bank.specs.Parts.{Sturdy, Countable, Came, Left};
 
 // The mark d, beside a primary p of logarithms lo and hi: each score, and the held gap taken out.
 pub(crate) fn score_all(
@@ -76,7 +76,7 @@ pub(crate) fn hear_mark(b: TimingBank, p: SpeedTracker, d: f32, live: bool) -> C
     requires { ⌜ Sturdy b × Countable b ⌝ }
     requires { ⌜ T (duration d) ⌝ }
     requires { ⌜ T (sound standard p) × (p .pair .ready ≡ true) ⌝ }
-    ensures { λ r. ⌜ (told r ≡ heardMark standard (view b) (Tracked.view p) d live) × Sturdy (r .bank) ⌝ }
+    ensures { λ r. ⌜ Left r (heardMark standard (view b) (Tracked.view p) d live) ⌝ }
 {
     let q = p.pair;
     let lo = log_of(q.lo);
@@ -105,7 +105,7 @@ pub fn on_mark(b: TimingBank, p: SpeedTracker, d: f32, live: bool) -> Changed
     requires { ⌜ Sturdy b × Countable b ⌝ }
     requires { ⌜ T (sound standard p) ⌝ }
     requires { ⌜ T (duration d) ⌝ }
-    ensures { λ r. ⌜ (told r ≡ onMark standard (view b) (Tracked.view p) d live) × Sturdy (r .bank) ⌝ }
+    ensures { λ r. ⌜ Left r (onMark standard (view b) (Tracked.view p) d live) ⌝ }
 {
     let q = p.pair;
     if hears(b.width, q.ready) {

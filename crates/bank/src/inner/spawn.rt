@@ -1,7 +1,6 @@
 // A new challenger (the Rust's `spawn`).
 use crate::Changed;
 use crate::TimingBank;
-use crate::TimingHypothesis;
 use crate::inner::among::any_twin;
 use crate::inner::among::victim;
 use crate::inner::leave::nobody;
@@ -12,6 +11,7 @@ use bank_model::Departure;
 use bank_model::Origin;
 use bank_model::inner::scores::duplicates;
 use bank_model::inner::scores::log_of;
+use rival::TimingHypothesis;
 use tracker::SpeedTracker;
 ghost use mathlib.Core.Path.{_≡_};
 ghost use mathlib.Core.Bool.{true};
@@ -24,8 +24,10 @@ ghost use Rattle.tracker.specs.Sound.{sound};
 ghost use Rattle.bank_model.specs.Scores.{lnDit, lnDah};
 ghost use Rattle.bank_model.specs.Steps.{newborn, pushed, replacing, place, spawnedAt};
 ghost use Rattle.bank_model.proofs.Places.{Before};
-ghost use Rattle.bank.specs.View.{viewHyp, view, told};
-ghost use Rattle.bank.specs.Parts.{Fit, Sturdy, Came};
+ghost use Rattle.rival.specs.View.{viewHyp};
+ghost use Rattle.bank.specs.View.{view, told};
+ghost use Rattle.rival.specs.Parts.{Fit};
+ghost use Rattle.bank.specs.Parts.{Sturdy, Came};
 
 // A challenger with the primary's scores and the next serial.
 pub(crate) fn newborn(

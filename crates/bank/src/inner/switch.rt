@@ -1,9 +1,9 @@
 // A switch (the Rust's `take_switch` and `push_log`).
 use crate::TimingBank;
-use crate::TimingHypothesis;
 use bank_model::Origin;
 use bank_model::SwitchRecord;
 use bank_model::inner::scores::log_of;
+use rival::TimingHypothesis;
 use tracker::SpeedTracker;
 use tracker::inner::gaps::settle;
 ghost use mathlib.Core.Path.{_≡_};
@@ -16,8 +16,10 @@ ghost use Rattle.ranges.specs.Settings.{standard};
 ghost use Rattle.tracker.specs.Model as Tracked;
 ghost use Rattle.tracker.specs.Sound.{sound};
 ghost use Rattle.bank_model.specs.Steps.{formerly, logged, exchanged, observed, takeSwitch};
-ghost use Rattle.bank.specs.View.{viewHyp, view};
-ghost use Rattle.bank.specs.Parts.{Fit, Log, Logging, Recorded, Sturdy};
+ghost use Rattle.rival.specs.View.{viewHyp};
+ghost use Rattle.bank.specs.View.{view};
+ghost use Rattle.rival.specs.Parts.{Fit};
+ghost use Rattle.bank.specs.Parts.{Log, Logging, Recorded, Sturdy};
 ghost use Rattle.bank.specs.Switching.{taking, noting, Chosen, Took};
 
 // A bank and a primary after a switch call, the primary's serial, and whether the two were exchanged.

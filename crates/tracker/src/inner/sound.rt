@@ -14,7 +14,7 @@ ghost use Rattle.tracker.specs.Parts.{Counted};
 ghost use Rattle.tracker.specs.Sound.{allDurations, centroids, plusZero, waiting, pairSettled, pairSound, entrySound, ringSound, positiveOr, hintSound, restSound, proper, counted, sound};
 
 // Whether each is a duration.
-pub(crate) fn all_durations(xs: &[f32]) -> bool
+pub fn all_durations(xs: &[f32]) -> bool
     ensures { λ r. ⌜ r ≡ allDurations (now (xs .entry)) ⌝ }
 {
     let mut i: usize = 0;

@@ -1,7 +1,7 @@
 -- `plain::from::bank_of` meets its contract. Assumes nothing.
 use mathlib.Core.Path.{ap}
 use mathlib.Core.List.{List}
-use Rattle.bank.specs.declared.TimingHypothesis.{TimingHypothesis}
+use Rattle.rival.specs.declared.TimingHypothesis.{TimingHypothesis}
 use Rattle.bank.specs.Parts.{restocked}
 use Rattle.plain.specs.Plain.{bankOf}
 use borrow.Author.Needs.{needs}

@@ -4,7 +4,7 @@ use Rattle.bank.proofs.inner.among.better.Statement.{statement}
 use Rattle.bank.proofs.inner.among.better.Tie as tie
 use Rattle.bank.proofs.inner.among.better.Reads as reads
 use Rattle.bank.proofs.inner.among.better.Lts as lts
-use Rattle.bank.proofs.inner.each.is_qualified.Reads as is-qualified-reads
+use Rattle.rival.proofs.inner.each.is_qualified.Reads as is-qualified-reads
 use Rattle.bank_model.proofs.inner.best.highest_of.Reads as highest-of-reads
 
 -- src/inner/among.rt:85:8

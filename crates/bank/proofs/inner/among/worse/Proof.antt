@@ -4,7 +4,7 @@ use Rattle.bank.proofs.inner.among.worse.Statement.{statement}
 use Rattle.bank.proofs.inner.among.worse.Tie as tie
 use Rattle.bank.proofs.inner.among.worse.Reads as reads
 use Rattle.bank.proofs.inner.among.worse.Lts as lts
-use Rattle.bank.proofs.inner.each.is_eligible.Reads as is-eligible-reads
+use Rattle.rival.proofs.inner.each.is_eligible.Reads as is-eligible-reads
 use Rattle.bank_model.proofs.inner.best.least_of.Reads as least-of-reads
 
 -- src/inner/among.rt:58:8

@@ -11,7 +11,7 @@ use Rattle.bank.proofs.inner.every.gap_all.Statement.{statement}
 use Rattle.bank.proofs.inner.every.gap_all.Tie as tie
 use Rattle.bank.proofs.inner.every.gap_all.Reads as reads
 use Rattle.bank.proofs.inner.every.gap_all.Lts as lts
-use Rattle.bank.proofs.inner.each.gap_one.Reads as gap-one-reads
+use Rattle.rival.proofs.inner.each.gap_one.Reads as gap-one-reads
 
 abbrev Inv-loop : tie.InvT-loop
 Inv-loop x d c₀ n i₀ c i = Mapping (gapped standard d) c₀ c i × (T (duration d) × (x ≡ lnOf d))

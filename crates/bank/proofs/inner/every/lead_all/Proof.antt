@@ -8,7 +8,7 @@ use Rattle.bank.proofs.inner.every.lead_all.Statement.{statement}
 use Rattle.bank.proofs.inner.every.lead_all.Tie as tie
 use Rattle.bank.proofs.inner.every.lead_all.Reads as reads
 use Rattle.bank.proofs.inner.every.lead_all.Lts as lts
-use Rattle.bank.proofs.inner.each.lead_one.Reads as lead-one-reads
+use Rattle.rival.proofs.inner.each.lead_one.Reads as lead-one-reads
 
 abbrev Inv-loop : tie.InvT-loop
 Inv-loop c₀ n score i₀ c i = Mapping (led standard score) c₀ c i

@@ -11,7 +11,7 @@ use Rattle.bank.proofs.inner.every.mark_all.Statement.{statement}
 use Rattle.bank.proofs.inner.every.mark_all.Tie as tie
 use Rattle.bank.proofs.inner.every.mark_all.Reads as reads
 use Rattle.bank.proofs.inner.every.mark_all.Lts as lts
-use Rattle.bank.proofs.inner.each.mark_one.Reads as mark-one-reads
+use Rattle.rival.proofs.inner.each.mark_one.Reads as mark-one-reads
 
 abbrev Inv-loop : tie.InvT-loop
 Inv-loop x d live c₀ n i₀ c i = Mapping (marked standard d live) c₀ c i × (T (duration d) × (x ≡ lnOf d))

@@ -1,5 +1,5 @@
 use Rattle.bank.proofs.Hearing.{dropped, gap-heard, mark-heard, primary-mark, gap-by, mark-heard-by, silent-told, live-told, mark-told}
-use Rattle.bank.proofs.Each.{gap-scored}
+use Rattle.rival.proofs.Each.{gap-scored}
 use Rattle.ranges.proofs.Durations.{duration-positive}
 use Rattle.tracker.proofs.Ringing.{inside}
 use Rattle.ranges.specs.Limits.{durationMin, durationMax}

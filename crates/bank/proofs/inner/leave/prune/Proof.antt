@@ -2,14 +2,14 @@ use borrow.Author.Needs.{needs}
 use mathlib.Core.Path.{_≡_, refl, ap, sym, _∙_}
 use Rattle.ranges.specs.Settings.{standard}
 use Prim.Native.Nat.{ℕ, _-_, _+_}
-use Rattle.bank.proofs.Leaving.{Sifting, sift-begins, sift-member, sift-keeps, sift-drops, sift-told, sift-steady, Noting, note-begins, note-turns, note-ends}
+use Rattle.bank.proofs.Leaving.{Sifting, sift-begins, sift-member, sift-keeps, sift-drops, sift-told, sift-steady, sift-few, Noting, note-begins, note-turns, note-ends}
 use Rattle.bank_model.specs.Steps.{causeAt}
 use Rattle.bank.proofs.inner.leave.prune.Statement.{statement}
 use Rattle.bank.proofs.inner.leave.prune.Tie as tie
 use Rattle.bank.proofs.inner.leave.prune.Reads as reads
 use Rattle.bank.proofs.inner.leave.prune.Lts as lts
-use Rattle.bank.proofs.inner.each.is_kept.Reads as is-kept-reads
-use Rattle.bank.proofs.inner.each.why.Reads as why-reads
+use Rattle.rival.proofs.inner.each.is_kept.Reads as is-kept-reads
+use Rattle.rival.proofs.inner.each.why.Reads as why-reads
 
 abbrev Inv-loop : tie.InvT-loop
 Inv-loop lo hi c₀ left₀ g₀ n score w₀ i₀ c left g w i = Sifting (causeAt standard score lo hi) c₀ left₀ g₀ c left g w i
@@ -83,7 +83,7 @@ loop-again-2 c = sift-drops _ _ _ _ _ _ _ _ _ _ (c .before .before .before .befo
 
 -- src/inner/leave.rt:42:1
 returns : tie.Need-returns Inv-loop μ-loop
-returns c = (sift-told _ _ (c .before .before .before .before .args .t) _ _ _ _ _ (c .before .loop .inv) (c .loop-test .left), sift-steady _ _ (c .before .before .before .before .args .t) _ _ _ _ _ (c .before .loop .inv) (c .loop-test .left))
+returns c = (sift-told _ _ (c .before .before .before .before .args .t) _ _ _ _ _ (c .before .loop .inv) (c .loop-test .left), (sift-steady _ _ (c .before .before .before .before .args .t) _ _ _ _ _ (c .before .loop .inv) (c .loop-test .left), sift-few _ _ (c .before .before .before .before .args .t) _ _ _ _ _ (c .before .loop .inv) (c .loop-test .left)))
 
 pub prune-spec : {M : Type 1} → statement M
 prune-spec =

@@ -31,11 +31,11 @@ prune-requires c κs = search needs
 
 -- src/inner/mark.rt:73:9
 qualifying-requires : tie.Need-qualifying-requires
-qualifying-requires c κs = search needs
+qualifying-requires c κs = c .before .prune .ensures .1 .0
 
 -- src/inner/mark.rt:61:1
 returns : tie.Need-returns
-returns c = (mark-told (view (c .before .before .before .before .before .before .before .before .args .b)) (Tracked.view (c .before .before .before .before .before .before .before .before .args .p)) _ _ (c .before .before .before .before .before .before .before .before .args .d) (c .before .before .before .before .before .before .before .before .args .live) (c .before .before .before .before .score-mark .result) (c .before .before .before .prune .result) (c .before .qualifying .result) (c .before .before .before .before .before .before .log-of .ensures) (c .before .before .before .before .before .log-of2 .ensures) (c .before .before .before .before .score-mark .ensures .is) (c .before .before .before .prune .ensures .0) (c .before .qualifying .ensures .0), c .before .qualifying .ensures .1)
+returns c = record { is = mark-told (view (c .before .before .before .before .before .before .before .before .args .b)) (Tracked.view (c .before .before .before .before .before .before .before .before .args .p)) _ _ (c .before .before .before .before .before .before .before .before .args .d) (c .before .before .before .before .before .before .before .before .args .live) (c .before .before .before .before .score-mark .result) (c .before .before .before .prune .result) (c .before .qualifying .result) (c .before .before .before .before .before .before .log-of .ensures) (c .before .before .before .before .before .log-of2 .ensures) (c .before .before .before .before .score-mark .ensures .is) (c .before .before .before .prune .ensures .0) (c .before .qualifying .ensures .0); sturdy = c .before .qualifying .ensures .1; few = c .before .before .before .prune .ensures .1 .1 }
 
 pub hear-mark-spec : {M : Type 1} → statement M
 hear-mark-spec =

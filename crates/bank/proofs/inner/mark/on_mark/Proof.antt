@@ -1,3 +1,4 @@
+use native.Mathlib.Omega.{arith}
 use Rattle.bank.proofs.Hearing.{dropped, gap-heard, mark-heard, primary-mark, gap-by, mark-heard-by, silent-told, live-told, mark-told}
 use Rattle.bank.proofs.Coming.{unchanged-came, unchanged-is, came-as}
 use Rattle.bank.specs.View.{given, view}
@@ -27,7 +28,7 @@ hear-mark-requires c κs = (c .before .before .before .pre .0, (c .before .befor
 
 -- src/inner/mark.rt:98:9
 returns : tie.Need-returns
-returns c = (c .hear-mark .ensures .0 ∙ mark-heard-by (view (c .before .before .before .before .args .b)) (Tracked.view (c .before .before .before .before .args .p)) (c .before .before .before .before .args .d) (c .before .before .before .before .args .live) true (sym (c .before .before .hears .ensures) ∙ c .before .if1 .taken), c .hear-mark .ensures .1)
+returns c = record { is = c .hear-mark .ensures .is ∙ mark-heard-by (view (c .before .before .before .before .args .b)) (Tracked.view (c .before .before .before .before .args .p)) (c .before .before .before .before .args .d) (c .before .before .before .before .args .live) true (sym (c .before .before .hears .ensures) ∙ c .before .if1 .taken); sturdy = c .hear-mark .ensures .sturdy; few = c .hear-mark .ensures .few }
 
 -- src/inner/mark.rt:100:5
 unchanged-requires : tie.Need-unchanged-requires
@@ -35,7 +36,7 @@ unchanged-requires c κs = search needs
 
 -- src/inner/mark.rt:90:1
 returns-2 : tie.Need-returns-2
-returns-2 c = (unchanged-is (c .before .before .before .before .args .b) _ (c .unchanged .ensures) ∙ mark-heard-by (view (c .before .before .before .before .args .b)) (Tracked.view (c .before .before .before .before .args .p)) (c .before .before .before .before .args .d) (c .before .before .before .before .args .live) false (sym (c .before .before .hears .ensures) ∙ c .before .if1 .left), subst Sturdy (sym (c .unchanged .ensures .0 .0)) (c .before .before .before .before .pre .0 .0))
+returns-2 c = record { is = unchanged-is (c .before .before .before .before .args .b) _ (c .unchanged .ensures) ∙ mark-heard-by (view (c .before .before .before .before .args .b)) (Tracked.view (c .before .before .before .before .args .p)) (c .before .before .before .before .args .d) (c .before .before .before .before .args .live) false (sym (c .before .before .hears .ensures) ∙ c .before .if1 .left); sturdy = subst Sturdy (sym (c .unchanged .ensures .0 .0)) (c .before .before .before .before .pre .0 .0); few = let e = c .unchanged .ensures .0 .1 in omega arith }
 
 pub on-mark-spec : {M : Type 1} → statement M
 on-mark-spec =

@@ -1,4 +1,4 @@
-use Rattle.bank.proofs.Switched.{log-room, log-full, dit-duration, it-fit, exchange-took, again, note-taken, call-exchange, call-observe, call-none, call-off, took-as}
+use Rattle.bank.proofs.Exchanging.{log-room, log-full, dit-duration, it-fit, exchange-took, again, note-taken, call-exchange, call-observe, call-none, call-off, took-as}
 use borrow.Author.Needs.{needs}
 use Rattle.bank.proofs.inner.switch.exchange.Statement.{statement}
 use Rattle.bank.proofs.inner.switch.exchange.Tie as tie

@@ -1,4 +1,4 @@
-use Rattle.bank.proofs.Switched.{log-room, log-full, dit-duration, it-fit, exchange-took, again, note-taken, call-exchange, call-observe, call-none, call-off, took-as}
+use Rattle.bank.proofs.Exchanging.{log-room, log-full, dit-duration, it-fit, exchange-took, again, note-taken, call-exchange, call-observe, call-none, call-off, took-as}
 use mathlib.Core.Path.{_≡_, refl, ap, sym, _∙_}
 use Rattle.tracker.specs.Model as Tracked
 use borrow.Author.Tests.{lt-leb, le-leb}
