@@ -33,13 +33,13 @@ bank-is {d} {q} e = ap bankOf e ∙ bank-back d
 pub left-is : (l : List Departure) {q : List PlainDeparture} (n : ℕ) → q ≡ map plainDeparture l → departures q n ≡ take n l
 left-is l {q} n e = ap (λ (z : List PlainDeparture). departures z n) e ∙ departures-back l n
 
-abbrev a-told : TimingBank → List Departure → Told
+abbrev pub a-told : TimingBank → List Departure → Told
 a-told b l = record { bank = view b; left = l }
 
 pub changed-is : (m : Changed) {q : PlainBank} {l : List PlainDeparture} → q ≡ plainBank (m .bank) → l ≡ map plainDeparture (m .left) → changedTo (record { bank = q; left = l; «left_len» = m .«left_len» }) ≡ told m
 changed-is m {q} {l} e f = ap (λ (b : TimingBank). a-told b (departures l (m .«left_len»))) (bank-is {d = m .bank} {q = q} e) ∙ ap (a-told (m .bank)) (left-is (m .left) {q = l} (m .«left_len») f)
 
-abbrev a-taken : TimingBank → Taken → Steps.Taken
+abbrev pub a-taken : TimingBank → Taken → Steps.Taken
 a-taken b t = record { bank = view b; primary = Tracked.view (t .primary); serial = t .serial; switched = t .switched }
 
 pub taken-is : (t : Taken) {q : PlainBank} → q ≡ plainBank (t .bank) → takenTo (record { bank = q; primary = t .primary; serial = t .serial; switched = t .switched }) ≡ viewTaken t

@@ -57,7 +57,7 @@ pub struct Bank {
 
 /// One that left; why: 0 twin, 1 outscored, 2 aged, 3 replaced, 4 cleared.
 #[repr(C)]
-#[derive(Debug, Clone, Copy, Default, PartialEq, PartialOrd)]
+#[derive(Debug, Clone, Copy, Default, PartialEq)]
 pub struct Departure {
     pub serial: u64,
     pub cause: u8,
