@@ -14,12 +14,14 @@ use Rattle.ranges.specs.Limits.{durationMin, durationMax}
 use Rattle.ranges.specs.Interval.{In, AllIn}
 use Rattle.ranges.proofs.Interval.{in-widen}
 use Rattle.tracker.specs.declared.SpeedTracker.{SpeedTracker}
-use Rattle.tracker.specs.Model.{Tracker, pushed}
+use Rattle.tracker.specs.Model.{Tracker}
+use Rattle.marks.specs.Lists.{pushed}
 use Rattle.tracker.specs.Model as Tracked
 use Rattle.tracker.specs.Steps.{settled}
 use Rattle.tracker.specs.Sound.{sound}
-use Rattle.tracker.proofs.Soundness.{sound-fine, ready-in}
-use Rattle.tracker.proofs.Shifting.{push-room, push-full}
+use Rattle.tracker.proofs.Soundness.{sound-fine}
+use Rattle.pair.proofs.Soundness.{ready-in}
+use Rattle.marks.proofs.Shifting.{push-room, push-full}
 use Rattle.bank_model.specs.declared.SwitchRecord.{SwitchRecord}
 use Rattle.bank_model.specs.Model.{Hyp, Bank}
 use Rattle.bank_model.specs.Steps.{logged, formerly, exchanged, reporting, unpended, observed, untaken, takenAt, takenOf, takeSwitch}

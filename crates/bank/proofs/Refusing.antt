@@ -18,8 +18,8 @@ use Rattle.ranges.proofs.Compare.{passed, and-taken, and-left}
 use Rattle.ranges.proofs.Door.{unrefused-in}
 use Rattle.tracker.specs.declared.SpeedTracker.{SpeedTracker}
 use Rattle.tracker.specs.Sound as Tracking
-use Rattle.tracker.specs.Sound.{duration}
-use Rattle.tracker.proofs.Ringing.{both}
+use Rattle.marks.specs.Lists.{duration}
+use Rattle.marks.proofs.Bounds.{both}
 use Rattle.tracker.proofs.Answering.{good-duration}
 use Rattle.bank.specs.declared.TimingBank.{TimingBank}
 use Rattle.bank.specs.Parts.{widest, Sturdy, Countable}

@@ -14,11 +14,9 @@ use Rattle.ranges.specs.Settings.{standard}
 use Rattle.ranges.specs.Limits.{nought, scoreMin, durationMin, durationMax}
 use Rattle.ranges.specs.Interval.{In, AllIn}
 use Rattle.ranges.proofs.Compare.{passed, in-within, within-in}
-use Rattle.tracker.specs.Model.{all}
-use Rattle.tracker.specs.Sound.{duration, allDurations}
-use Rattle.tracker.proofs.Ringing.{both, durations-in}
-use Rattle.tracker.proofs.Soundness.{join}
-use Rattle.tracker.proofs.Testing.{Testing, test-begins, test-turns, test-fails, test-ends, tested, places}
+use Rattle.marks.specs.Lists.{all, duration, allDurations}
+use Rattle.marks.proofs.Bounds.{both, durations-in, join}
+use Rattle.marks.proofs.Testing.{Testing, test-begins, test-turns, test-fails, test-ends, tested, places}
 use Rattle.bank_model.specs.declared.SwitchRecord.{SwitchRecord}
 use Rattle.rival.specs.declared.TimingHypothesis.{TimingHypothesis}
 use Rattle.rival.specs.Sound.{score, hypSound}

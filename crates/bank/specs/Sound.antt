@@ -5,8 +5,7 @@ use lib.Dec.{leb, ltb}
 use lib.ListN.{take}
 use lib.Ieee.{Float}
 use Rattle.ranges.specs.Settings.{Settings}
-use Rattle.tracker.specs.Model.{all}
-use Rattle.tracker.specs.Sound.{duration, allDurations}
+use Rattle.marks.specs.Lists.{all, duration, allDurations}
 use Rattle.bank_model.specs.declared.SwitchRecord.{SwitchRecord}
 use Rattle.rival.specs.Sound.{score, hypSound}
 use Rattle.bank.specs.declared.TimingBank.{TimingBank}

@@ -6,7 +6,7 @@ use Prim.Native.Nat.{ℕ, zero, suc, _+_, _-_, _≤_, _<_}
 use native.Mathlib.Numerals.{add-one}
 use native.Mathlib.Omega.{arith}
 use lib.ListN.{length, take, drop, getD, set, drop-of-length-le}
-use Rattle.tracker.proofs.Rivalling.{Filling, fill-begins, fill-turns, fill-ends}
+use Rattle.marks.proofs.Places.{Filling, fill-begins, fill-turns, fill-ends}
 use lib.Seq.{drop-cons}
 use lib.Ieee.{Float, nan}
 use Rattle.order.specs.Order.{totalLess}

@@ -20,13 +20,19 @@ use Rattle.ranges.specs.Interval.{In}
 use Rattle.ranges.specs.Mean.{meanOf}
 use Rattle.ranges.proofs.Standard.{dit-positive, estimate-in, standard-good, standard-held}
 use Rattle.ranges.specs.Average.{average}
-use Rattle.tracker.specs.Constants.{two}
-use Rattle.tracker.specs.Model.{Pair, Tracker, view, withCentroids, withPair}
-use Rattle.tracker.specs.Lock.{parts, bimodal, asDahs, asDits, unimodal, locked, initialized, constrained, anchorsDit, anchorsDah, boundary, moved, learnt, observed}
-use Rattle.tracker.specs.Steps.{bound, uniform, drifts, drifted, fragment, recoveredBy, checked, followed, fresh, fromMarks, otherPair, hasOther, threeToOne, onMark, settled, estimate, ditEstimate, elementGap, onGap}
+use Rattle.marks.specs.Constants.{two}
+use Rattle.pair.specs.Model.{Pair, withCentroids}
+use Rattle.tracker.specs.Model.{Tracker, view, withPair}
+use Rattle.marks.specs.Sort.{parts}
+use Rattle.pair.specs.Lock.{bimodal, asDahs, asDits, unimodal, locked, initialized, constrained, anchorsDit, anchorsDah, boundary, moved, learnt, observed}
+use Rattle.tracker.specs.Steps.{bound, drifted, fragment, recoveredBy, checked, followed, fresh, fromMarks, threeToOne, onMark, settled, estimate, ditEstimate, elementGap, onGap}
+use Rattle.ring.specs.Ring.{uniform, drifts}
+use Rattle.pair.specs.Readings.{otherPair, hasOther}
 use Rattle.tracker.specs.declared.SpeedTracker.{SpeedTracker}
-use Rattle.tracker.specs.Sound.{positiveOr, plusZero, sound}
-use Rattle.tracker.proofs.Soundness.{sound-fine, ready-in, unready-zero}
+use Rattle.tracker.specs.Sound.{positiveOr, sound}
+use Rattle.pair.specs.Sound.{plusZero}
+use Rattle.tracker.proofs.Soundness.{sound-fine}
+use Rattle.pair.proofs.Soundness.{ready-in, unready-zero}
 use Rattle.tracker.proofs.Keeping.{by-cond, on-true, gaps-pair}
 use Rattle.bank_model.specs.Constants.{milli}
 

@@ -8,10 +8,10 @@ use lib.Dec.{ltb, leb, eqb}
 use lib.Ieee.{Float, binary32, mul, lt, le}
 use Rattle.order.specs.Order.{larger, totalLess}
 use Rattle.ranges.specs.Settings.{Settings}
-use Rattle.tracker.specs.Constants.{two}
+use Rattle.marks.specs.Constants.{two}
+use Rattle.marks.specs.Lists as Lists
 use Rattle.tracker.specs.Model.{Tracker}
-use Rattle.tracker.specs.Model as Tracked
-use Rattle.tracker.specs.Lock.{boundary}
+use Rattle.pair.specs.Lock.{boundary}
 use Rattle.tracker.specs.Steps.{ditEstimate, elementGap, fromMarks, threeToOne, settled}
 use Rattle.tracker.specs.Steps as Tracking
 use Rattle.bank_model.specs.declared.Origin.{Origin}
@@ -420,7 +420,7 @@ pub record Taken : Type 0 where
 
 -- the last 16
 abbrev pub logged : List SwitchRecord → SwitchRecord → List SwitchRecord
-logged l r = Tracked.pushed 16 l r
+logged l r = Lists.pushed 16 l r
 
 abbrev pub formerly : Bank → Tracker → ℕ → Hyp
 formerly b p serial = record {

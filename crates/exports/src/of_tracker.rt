@@ -11,9 +11,10 @@ ghost use lib.Dec.{T};
 ghost use Rattle.ranges.specs.Limits.{durationRefusal};
 ghost use Rattle.ranges.specs.Settings.{standard};
 ghost use Rattle.tracker.specs.Model.{view};
-ghost use Rattle.tracker.specs.Lock.{boundary};
+ghost use Rattle.pair.specs.Lock.{boundary};
 ghost use Rattle.tracker.specs.Sound.{sound};
-ghost use Rattle.tracker.specs.Steps.{bootstrapped, canBegin, ditEstimate, fresh, gapsSayDahs, onGap, onMark, reseeded, resolved, seeded, setHint, settled};
+ghost use Rattle.tracker.specs.Steps.{bootstrapped, canBegin, ditEstimate, fresh, onGap, onMark, reseeded, resolved, seeded, setHint, settled};
+ghost use Rattle.pair.specs.Readings.{gapsSayDahs};
 ghost use Rattle.tracker.specs.Answers.{count, done, flag, listRefusal, number, ofCount, ofFlag, ofReading, ofTold, optional, speedRefusal, stateThen, unless};
 ghost use Rattle.exports.specs.Tracker.{code, yes, counted, flagged, numbered, Handed};
 

@@ -5,7 +5,7 @@ use mathlib.Core.List.{List, [], _∷_, map}
 use Prim.Native.Nat.{ℕ, zero, suc}
 use lib.Dec.{leb}
 use lib.ListN.{take}
-use Rattle.tracker.specs.Model.{all}
+use Rattle.marks.specs.Lists.{all}
 use Rattle.bank_model.specs.declared.Origin.{Origin}
 use Rattle.bank_model.specs.declared.Origin.the-variants.{Bootstrap, Streak, FormerPrimary}
 use Rattle.bank_model.specs.declared.Cause.{Cause}

@@ -4,7 +4,7 @@ use mathlib.Core.List.{List, map}
 use Prim.Native.Nat.{ℕ}
 use lib.Dec.{eqb, leb}
 use lib.ListN.{take}
-use Rattle.tracker.specs.Model.{all}
+use Rattle.marks.specs.Lists.{all}
 use Rattle.bank_model.specs.declared.Origin.{Origin}
 use Rattle.bank_model.specs.declared.Origin.the-variants.{Bootstrap, Streak, FormerPrimary}
 use Rattle.bank_model.specs.declared.Cause.{Cause}

@@ -7,14 +7,15 @@ use lib.Dec.{T, leb, ltb}
 use lib.Ieee.{Float, binary32, sub, mul, lt}
 use native.Mathlib.Decide.{decLe}
 use native.Mathlib.Nat.{lt-of-not-le}
-use Rattle.tracker.specs.Constants.{two}
+use Rattle.marks.specs.Constants.{two}
 use borrow.Author.Tests.{lt-leb, le-leb, lt-ltb, le-ltb}
 use Rattle.numbers.specs.Log.{lnOf}
 use Rattle.ranges.specs.Settings.{Settings, standard}
 use Rattle.ranges.specs.Limits.{nought, scoreMin}
 use Rattle.ranges.specs.Interval.{In}
 use Rattle.tracker.specs.declared.SpeedTracker.{SpeedTracker}
-use Rattle.tracker.specs.Model.{Pair, Tracker}
+use Rattle.pair.specs.Model.{Pair}
+use Rattle.tracker.specs.Model.{Tracker}
 use Rattle.tracker.specs.Model as Tracked
 use Rattle.tracker.specs.Steps as Tracking
 use Rattle.tracker.specs.Sound.{sound}

@@ -17,8 +17,7 @@ use Rattle.ranges.proofs.Compare.{passed, and-taken, and-left, in-within, withi
 use Rattle.ranges.proofs.Own.{value-unique}
 use Rattle.tracker.specs.Sound as Tracking
 use Rattle.tracker.proofs.Keeping.{by-cond}
-use Rattle.tracker.proofs.Ringing.{both}
-use Rattle.tracker.proofs.Soundness.{join}
+use Rattle.marks.proofs.Bounds.{both, join}
 use Rattle.bank_model.specs.Constants.{milli}
 use Rattle.bank_model.specs.Scores.{logOf, lnDit, lnDah}
 use Rattle.bank_model.proofs.Ready.{dit-log, dah-log}

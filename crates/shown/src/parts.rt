@@ -1,7 +1,7 @@
 // The parts of a tracker that a line may set, by their numbers: the struct's fields in order.
+use pair::ClusterPair;
 use replay::float;
-use tracker::ClusterPair;
-use tracker::RingEntry;
+use ring::RingEntry;
 use tracker::SpeedTracker;
 
 fn with_start(p: ClusterPair, i: usize, v: u32) -> ClusterPair {

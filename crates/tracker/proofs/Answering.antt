@@ -13,9 +13,10 @@ use Rattle.ranges.specs.Limits.{durationMin, durationMax, durationRefusal}
 use Rattle.ranges.proofs.Door.{unrefused-in}
 use Rattle.tracker.specs.declared.SpeedTracker.{SpeedTracker}
 use Rattle.tracker.specs.Model.{Tracker, view}
-use Rattle.tracker.specs.Sound.{duration, sound}
+use Rattle.marks.specs.Lists.{duration}
+use Rattle.tracker.specs.Sound.{sound}
 use Rattle.tracker.specs.Answers.{Answer, refused, unless, stateThen, speedRefusal, listRefusal, Answers}
-use Rattle.tracker.proofs.Soundness.{outside}
+use Rattle.marks.proofs.Bounds.{outside}
 
 clash : {P : Type 0} → _≡_ {A = ℕ} 1 0 → P
 clash e = absurd (omega arith)

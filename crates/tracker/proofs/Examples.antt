@@ -9,9 +9,12 @@ use Rattle.numbers.specs.Values.{narrow}
 use Rattle.numbers.specs.Log.{lnSaid, lnOf, digits}
 use Rattle.ranges.specs.Mean.{sumFrom, squaresFrom}
 use Rattle.ranges.specs.Settings.{standard}
-use Rattle.tracker.specs.Model.{Pair, all}
-use Rattle.tracker.specs.Lock.{insert, insertAll, ratios, firstLargest, locked, constrained, learnt, started}
-use Rattle.tracker.specs.Steps.{fresh, onMark, anchor, checked}
+use Rattle.pair.specs.Model.{Pair}
+use Rattle.marks.specs.Lists.{all}
+use Rattle.marks.specs.Sort.{insert, insertAll, ratios, firstLargest}
+use Rattle.pair.specs.Lock.{locked, constrained, learnt, started}
+use Rattle.tracker.specs.Steps.{fresh, onMark, checked}
+use Rattle.ring.specs.Ring.{anchor}
 use Rattle.tracker.specs.Examples.{whole, fed, AllHold, settled}
 
 -- the mark that equals the boundary: what a pair learns from it

@@ -28,16 +28,24 @@ use Rattle.ranges.proofs.Narrow.{narrow-fits}
 use Rattle.ranges.proofs.Mean.{duration-number, duration-mean-in}
 use Rattle.ranges.proofs.Good as G
 use Rattle.ranges.proofs.Good.{speedLeast, speedMost}
-use Rattle.tracker.specs.declared.RingEntry.{RingEntry}
-use Rattle.tracker.specs.Constants.{two, three}
-use Rattle.tracker.specs.Model.{Pair, Tracker, withPair, withInit, withRing, withRecent, withEgap, withRecovered, withUncorroborated, pushed, all}
-use Rattle.tracker.specs.Lock.{sorted, cut, parts, bimodal, asDahs, asDits, unimodal, locked, initialized, ratioOr, constrained, anchorsDit, anchorsDah, moved, learnt, started, observed, boundary}
-use Rattle.tracker.specs.Sound.{duration, allDurations, centroids, pairSound, entrySound, ringSound, positiveOr, hintSound}
-use Rattle.tracker.specs.Steps.{durations, estimate, ditEstimate, speed, timed, averaged, bound, allClassed, uniform, drifts, fragment, relocked, drifted, recoveredBy, checked, entry, rung, spoken, followed, opened, onMark, seedPair, seedDit, seeded, setHint, gapMoved, onGap, bootstrapped, canBegin, reseeded, settled, turned, resolved, gapsSayDahs, unsure, fresh, elementGap, elementGaps, fromMarks, otherPair}
-use Rattle.tracker.proofs.Cutting.{sorted-in, sorted-long, take-in, drop-in, parts-two, cut-inside}
-use Rattle.tracker.proofs.Starting.{append-in}
-use Rattle.tracker.proofs.Ringing.{both, inside, durations-in, ring-in}
-use Rattle.tracker.proofs.Soundness.{join, outside, pushed-all, pushed-some, pushed-most, none-all, pair-init, ready-centroids, ready-in, unready-zero, unready-few, ready-sound, unready-sound, Fine, fine}
+use Rattle.ring.specs.declared.RingEntry.{RingEntry}
+use Rattle.marks.specs.Constants.{two, three}
+use Rattle.pair.specs.Model.{Pair, withInit}
+use Rattle.tracker.specs.Model.{Tracker, withPair, withRing, withRecent, withEgap, withRecovered, withUncorroborated}
+use Rattle.marks.specs.Lists.{pushed, all, duration, allDurations}
+use Rattle.marks.specs.Sort.{sorted, cut, parts}
+use Rattle.pair.specs.Lock.{bimodal, asDahs, asDits, unimodal, locked, initialized, ratioOr, constrained, anchorsDit, anchorsDah, moved, learnt, started, observed, boundary}
+use Rattle.pair.specs.Sound.{centroids, pairSound}
+use Rattle.ring.specs.Ring.{entrySound, ringSound, durations, allClassed, uniform, drifts, entry}
+use Rattle.tracker.specs.Sound.{positiveOr, hintSound}
+use Rattle.tracker.specs.Steps.{estimate, ditEstimate, speed, timed, averaged, bound, fragment, relocked, drifted, recoveredBy, checked, rung, spoken, followed, opened, onMark, seedDit, seeded, setHint, gapMoved, onGap, bootstrapped, canBegin, reseeded, settled, resolved, fresh, elementGap, elementGaps, fromMarks}
+use Rattle.pair.specs.Readings.{seedPair, turned, gapsSayDahs, unsure, otherPair}
+use Rattle.marks.proofs.Cutting.{sorted-in, sorted-long, take-in, drop-in, parts-two, cut-inside}
+use Rattle.marks.proofs.Places.{append-in}
+use Rattle.marks.proofs.Bounds.{both, inside, durations-in, join, outside, pushed-all, pushed-some, pushed-most, none-all}
+use Rattle.ring.proofs.Ringing.{ring-in}
+use Rattle.pair.proofs.Soundness.{pair-init, ready-centroids, ready-in, unready-zero, unready-few, ready-sound, unready-sound}
+use Rattle.tracker.proofs.Soundness.{Fine, fine}
 
 -- ---- by the two cases of a test
 pub by-cond : {A : Type 0} (P : A → Type 0) (b : Bool) (x y : A) → (b ≡ true → P x) → (b ≡ false → P y) → P (cond b x y)

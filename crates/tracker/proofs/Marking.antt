@@ -5,13 +5,17 @@ use native.Mathlib.Omega.{arith}
 use lib.Dec.{T, eqb}
 use lib.Ieee.{Float}
 use Rattle.ranges.specs.Settings.{Settings, standard}
-use Rattle.tracker.specs.declared.RingEntry.{RingEntry}
-use Rattle.tracker.specs.Model.{Pair, Tracker, withPair, withRecent, withUncorroborated, pushed}
+use Rattle.ring.specs.declared.RingEntry.{RingEntry}
+use Rattle.pair.specs.Model.{Pair}
+use Rattle.tracker.specs.Model.{Tracker, withPair, withRecent, withUncorroborated}
+use Rattle.marks.specs.Lists.{pushed, duration}
 use Rattle.tracker.specs.Parts.{Drivable}
-use Rattle.tracker.specs.Lock.{learnt, started, observed}
-use Rattle.tracker.specs.Sound.{duration, centroids, entrySound}
-use Rattle.tracker.specs.Steps.{bound, entry, rung, checked, spoken, followed, opened, onMark}
-use Rattle.tracker.proofs.Soundness.{join, pushed-all, pushed-some, Fine}
+use Rattle.pair.specs.Lock.{learnt, started, observed}
+use Rattle.pair.specs.Sound.{centroids}
+use Rattle.ring.specs.Ring.{entrySound, entry}
+use Rattle.tracker.specs.Steps.{bound, rung, checked, spoken, followed, opened, onMark}
+use Rattle.marks.proofs.Bounds.{join, pushed-all, pushed-some}
+use Rattle.tracker.proofs.Soundness.{Fine}
 
 -- ---- a tracker that was ready
 module _ (k : Settings) (p : Pair) (d : Float) (u c : Tracker) (x : RingEntry) (C : c ≡ bound k u) (X : x ≡ entry p (c .pair) d) where

@@ -1,23 +1,24 @@
 -- A check for drift, by its tests. Assumes nothing.
-use mathlib.Core.Path.{_≡_, refl, ap, sym, _∙_, subst}
+use mathlib.Core.Path.{_≡_, ap, sym, _∙_, subst}
 use mathlib.Core.Bool.{Bool, true, false, not, cond, _||_}
-use mathlib.Core.List.{List, [], _∷_}
+use mathlib.Core.List.{List}
 use Prim.Native.Nat.{ℕ, _≤_}
 use native.Mathlib.Omega.{arith}
 use lib.Dec.{T, leb, leb→le}
-use lib.ListN.{length, take, getD, length-map, length-take}
-use lib.Seq.{length-take-le, take-take, take-all}
+use lib.ListN.{length, take, length-map, length-take}
+use lib.Seq.{length-take-le, take-all}
 use lib.Ieee.{Float}
 use Rattle.ranges.specs.Settings.{Settings, standard}
 use Rattle.ranges.proofs.Compare.{passed}
-use Rattle.tracker.specs.declared.RingEntry.{RingEntry}
+use Rattle.ring.specs.declared.RingEntry.{RingEntry}
 use Rattle.tracker.specs.declared.SpeedTracker.{SpeedTracker}
 use Rattle.tracker.specs.Model.{Tracker, view, withPair}
 use Rattle.tracker.specs.Parts.{Full, Checkable}
-use Rattle.tracker.specs.Sound.{ringSound}
-use Rattle.tracker.specs.Steps.{durations, allClassed, uniform, drifts, fragment, drifted, recoveredBy, checked, timed, bound, canBegin, bootstrapped, reseeded}
-use Rattle.tracker.specs.Lock.{initialized}
-use Rattle.tracker.proofs.Ringing.{both, whole}
+use Rattle.ring.specs.Ring.{ringSound, durations, allClassed, uniform, drifts}
+use Rattle.tracker.specs.Steps.{fragment, drifted, recoveredBy, checked, timed, bound, canBegin, bootstrapped, reseeded}
+use Rattle.pair.specs.Lock.{initialized}
+use Rattle.marks.proofs.Bounds.{both}
+use Rattle.ring.proofs.Ringing.{whole}
 
 pub full-count : (l : List RingEntry) (n : ℕ) → length l ≡ 12 → n ≤ 12 → uniform (take n l) ≡ true → n ≡ 12
 full-count l n h k e =
@@ -47,20 +48,6 @@ module _ (k : Settings) (m : Tracker) where
   pub checked-mixed : uniform (m .ring) ≡ false → m ≡ checked k m
   unfolding checked
   checked-mixed u = rw u
-
--- five places by name
-pub five-of : (l : List Float) (z : Float) → length l ≡ 5 → getD l 0 z ∷ getD l 1 z ∷ getD l 2 z ∷ getD l 3 z ∷ getD l 4 z ∷ [] ≡ l
-five-of (a ∷ b ∷ c ∷ x ∷ y ∷ []) z h = refl
-five-of [] z h = absurd (omega arith)
-five-of (a ∷ []) z h = absurd (omega arith)
-five-of (a ∷ b ∷ []) z h = absurd (omega arith)
-five-of (a ∷ b ∷ c ∷ []) z h = absurd (omega arith)
-five-of (a ∷ b ∷ c ∷ x ∷ []) z h = absurd (omega arith)
-five-of (a ∷ b ∷ c ∷ x ∷ y ∷ w ∷ r) z h = absurd (omega arith)
-
--- the first n of a wider array
-pub wider : (s l : List Float) (n : ℕ) → take 5 s ≡ l → n ≤ 5 → take n s ≡ take n l
-wider s l n e h = sym (take-take n 5 s h) ∙ ap (take n) e
 
 pub drifts-at : (t : SpeedTracker) (b v : Bool) → length (t .ring) ≡ 12 → Full t → b ≡ drifts (t .ring) → b ≡ v → drifts (view t .ring) ≡ v
 drifts-at t b v h f e q = ap drifts (whole (t .ring) (t .«ring_len») h (f .count)) ∙ sym e ∙ q

@@ -1,55 +1,39 @@
--- Trackers made from marks, and three-to-one readings, step by step as the code takes them. Assumes nothing.
+-- Gaps that lie in a band: the loop that keeps them, and their range. Assumes nothing.
 use mathlib.Core.Path.{_≡_, refl, ap, sym, _∙_}
-use mathlib.Core.Bool.{Bool, true, false, not, cond, _&&_}
-use mathlib.Core.List.{List, [], _∷_, _++_}
-use mathlib.Core.Option.{none, some}
-use Prim.Native.Nat.{ℕ, suc, _+_, _≤_, _<_}
+use mathlib.Core.Bool.{Bool, true, false, cond}
+use mathlib.Core.List.{List}
+use Prim.Native.Nat.{ℕ, _+_, _≤_, _<_, suc}
 use native.Mathlib.Numerals.{add-one}
 use native.Mathlib.Omega.{arith}
 use lib.Dec.{T}
-use lib.Ieee.Bits.{is-true}
-use lib.ListN.{length, take, drop, getD, set, length-set, drop-of-length-le}
-use lib.Seq.{take-suc-set, take-suc, take-all, drop-cons}
+use lib.ListN.{length, getD, drop, drop-of-length-le}
 use lib.Ieee.{Float, nan, binary32, mul, lt}
-use Rattle.ranges.proofs.Compare.{passed}
 use Rattle.ranges.specs.Settings.{Settings, standard}
 use Rattle.ranges.specs.Limits.{durationMin, durationMax}
 use Rattle.ranges.specs.Interval.{AllIn}
+use Rattle.marks.specs.Constants.{two}
+use Rattle.pair.specs.Model.{Pair}
+use Rattle.tracker.specs.Model.{Tracker, withPair, view}
+use Rattle.pair.specs.Readings.{gapsSayDahs, turned, otherPair, hasOther}
+use Rattle.tracker.specs.Steps.{timed, bound, resolved, fresh, elementGap, elementGaps, fromMarks, threeToOne, ditEstimate, onGap}
+use mathlib.Core.Option.{none, some}
+use lib.Seq.{drop-cons}
 use Rattle.ranges.proofs.Standard.{standard-good, standard-held}
 use Rattle.tracker.specs.declared.SpeedTracker.{SpeedTracker}
-use Rattle.tracker.specs.Model.{Pair, Tracker, view, withPair}
 use Rattle.tracker.specs.Parts.{Counted, other}
-use Rattle.tracker.specs.Lock.{initialized}
+use Rattle.pair.specs.Lock.{initialized}
 use Rattle.tracker.specs.Sound.{sound}
-use Rattle.tracker.specs.Steps.{fresh, timed, bound, elementGap, elementGaps, fromMarks, otherPair, hasOther, threeToOne, ditEstimate, onGap}
-use Rattle.tracker.specs.Constants.{two}
-use Rattle.tracker.proofs.Ringing.{both}
 use Rattle.tracker.proofs.Keeping.{gaps-pair, locked-up, rest-of, fresh-sane, timed-fine}
 use Rattle.tracker.proofs.Soundness.{sound-by, sound-fine, proper-of}
 
--- ---- marks copied: the first i are
-pub record Filling (l out : List Float) (i : ℕ) : Type 0 where
-  pub upto : i ≤ length l
-  pub room : length out ≡ 12
-  pub is : take i out ≡ take i l
+module _ (k : Settings) (m : Tracker) (gaps : List Float) where
+  pub resolves : (r : Tracker) → gapsSayDahs k (m .pair) gaps ≡ true → r ≡ timed k (bound k (withPair m (turned (m .pair)))) → r ≡ resolved k m gaps
+  unfolding resolved
+  resolves r e q = q ∙ sym (ap (λ (b : Bool). cond b (timed k (bound k (withPair m (turned (m .pair))))) m) e)
 
-pub fill-begins : (l out : List Float) → length out ≡ 12 → Filling l out 0
-fill-begins l out h = record { upto = omega arith; room = h; is = refl }
-
-pub fill-turns : (l out : List Float) (i : ℕ) → i < length l → length l ≤ 12 → Filling l out i → Filling l (set out i (getD l i nan)) (i + 1)
-fill-turns l out i h w v =
-    let r = v .room in
-    record {
-      upto = omega arith;
-      room = length-set out i (getD l i nan) ∙ r;
-      is = rw add-one (take-suc-set out i (getD l i nan) (omega arith) ∙ ap (λ (z : List Float). z ++ (getD l i nan ∷ [])) (v .is) ∙ sym (take-suc l i nan h));
-    }
-
-pub fill-ends : (l out : List Float) (i : ℕ) → length l ≤ i → Filling l out i → take (length l) out ≡ l
-fill-ends l out i h v =
-    let u = v .upto in
-    let e : i ≡ length l = omega arith in
-    ap (λ (n : ℕ). take n out) (sym e) ∙ v .is ∙ take-all i l h
+  pub resolves-not : gapsSayDahs k (m .pair) gaps ≡ false → m ≡ resolved k m gaps
+  unfolding resolved
+  resolves-not e = sym (ap (λ (b : Bool). cond b (timed k (bound k (withPair m (turned (m .pair))))) m) e)
 
 -- ---- element gaps: the first i are heard
 pub record Hearing (k : Settings) (m : Tracker) (l : List Float) (u : SpeedTracker) (i : ℕ) : Type 0 where
@@ -103,6 +87,3 @@ heard-ready l g a b m h w A E =
 pub timed-sound : (u r : SpeedTracker) → T (sound standard u) → view u .pair .ready ≡ true → (view r ≡ timed standard (view u)) × Counted r → T (sound standard r)
 timed-sound u r s e q =
     sound-by standard r (timed standard (view u)) q (proper-of standard (timed standard (view u)) (timed-fine standard standard-good standard-held (view u) (sound-fine standard u s) e))
-
-pub other-ready : (p : Pair) → hasOther standard p ≡ true → p .ready ≡ true
-other-ready p e = is-true (p .ready) (both (p .ready) (not (p .confirmed)) (both (p .ready && not (p .confirmed)) _ (passed e) .0) .0)

@@ -1,101 +1,20 @@
 -- What soundness says, part by part, and how it is put together again. Assumes nothing.
 use mathlib.Core.Path.{_≡_, sym, subst}
-use mathlib.Core.Bool.{Bool, true, false, cond, _&&_}
-use mathlib.Core.List.{List, [], _∷_, _++_}
-use Prim.Native.Nat.{ℕ, zero, suc, _+_, _-_, _≤_}
-use native.Mathlib.Omega.{arith}
+use mathlib.Core.Bool.{Bool, true, _&&_}
+use Prim.Native.Nat.{_-_}
 use lib.Dec.{T, leb, leb→le, le→leb}
-use lib.ListN.{length, drop, length-append, length-drop}
-use lib.Ieee.{Float, le}
-use lib.Ieee.Fits.{and-i}
+use lib.Ieee.{le}
 use lib.Ieee.Bits.{is-true}
 use Rattle.ranges.specs.Settings.{Settings}
-use Rattle.ranges.specs.Limits.{dahMin, dahMax}
-use Rattle.ranges.specs.Interval.{In, within}
 use Rattle.ranges.proofs.Compare.{passed}
 use Rattle.tracker.specs.declared.SpeedTracker.{SpeedTracker}
-use Rattle.tracker.specs.Model.{Pair, Tracker, view, pushed, all}
+use Rattle.tracker.specs.Model.{Tracker, view}
+use Rattle.marks.specs.Lists.{allDurations}
 use Rattle.tracker.specs.Parts.{Counted}
-use Rattle.tracker.specs.Sound.{allDurations, centroids, plusZero, pairSound, ringSound, positiveOr, hintSound, proper, counted, sound}
-use Rattle.tracker.proofs.Ringing.{both, inside}
-
-pub join : (a b : Bool) → T a → T b → T (a && b)
-join a b s t = and-i a b s t
-
-pub outside : (lo hi x : Float) → In lo hi x → T (within lo hi x)
-outside lo hi x i = join (le lo x) (le x hi) (i .0) (i .1)
-
--- ---- tests of lists
-module _ {A : Type 0} (p : A → Bool) where
-  append-all : (l : List A) (x : A) → T (all p l) → T (p x) → T (all p (l ++ (x ∷ [])))
-  unfolding all
-  append-all [] x t u = join (p x) true u tt
-  append-all (y ∷ ys) x t u = let b = both (p y) (all p ys) t in join (p y) (all p (ys ++ (x ∷ []))) (b .0) (append-all ys x (b .1) u)
-
-  drop-all : (n : ℕ) (l : List A) → T (all p l) → T (all p (drop n l))
-  unfolding all
-  drop-all zero l t = t
-  drop-all (suc n) [] t = tt
-  drop-all (suc n) (y ∷ ys) t = drop-all n ys (both (p y) (all p ys) t .1)
-
-  pub pushed-all : (n : ℕ) (l : List A) (x : A) → T (all p l) → T (p x) → T (all p (pushed n l x))
-  pushed-all n l x t u = drop-all (length (l ++ (x ∷ [])) - n) (l ++ (x ∷ [])) (append-all l x t u)
-
-  pub none-all : T (all p [])
-  unfolding all
-  none-all = tt
-
-pub pushed-some : {A : Type 0} (n : ℕ) (l : List A) (x : A) → 1 ≤ n → 1 ≤ length (pushed n l x)
-pushed-some n l x h =
-    let m = l ++ (x ∷ []) in
-    let a : length m ≡ length l + 1 = simp length-append in
-    let b : length (drop (length m - n) m) ≡ length m - (length m - n) = length-drop (length m - n) m in
-    omega arith
-
--- ---- a sound pair
-module _ (k : Settings) (p : Pair) where
-  abbrev still : Bool
-  still = plusZero (p .lo) && (plusZero (p .hi) && leb (length (p .init)) 4)
-
-  abbrev state : Bool → Bool
-  state b = cond b (centroids k (p .lo) (p .hi)) still
-
-  pub pair-init : T (pairSound k p) → T (allDurations (p .init))
-  pair-init t = both (state (p .ready)) (allDurations (p .init)) t .1
-
-  state-at : (b : Bool) → p .ready ≡ b → T (pairSound k p) → T (state b)
-  state-at b e t = subst (λ (r : Bool). T (state r)) e (both (state (p .ready)) (allDurations (p .init)) t .0)
-
-  pub ready-centroids : p .ready ≡ true → T (pairSound k p) → T (centroids k (p .lo) (p .hi))
-  ready-centroids e t = state-at true e t
-
-  pub ready-in : p .ready ≡ true → T (pairSound k p) → In (k .ditMin) (k .ditMax) (p .lo) × In dahMin dahMax (p .hi)
-  ready-in e t =
-      let b = both (within (k .ditMin) (k .ditMax) (p .lo)) (within dahMin dahMax (p .hi)) (ready-centroids e t) in
-      (inside (k .ditMin) (k .ditMax) (p .lo) (b .0), inside dahMin dahMax (p .hi) (b .1))
-
-  unready : p .ready ≡ false → T (pairSound k p) → T still
-  unready e t = state-at false e t
-
-  pub unready-zero : p .ready ≡ false → T (pairSound k p) → T (plusZero (p .lo)) × T (plusZero (p .hi))
-  unready-zero e t =
-      let a = both (plusZero (p .lo)) (plusZero (p .hi) && leb (length (p .init)) 4) (unready e t) in
-      (a .0, both (plusZero (p .hi)) (leb (length (p .init)) 4) (a .1) .0)
-
-  pub unready-few : p .ready ≡ false → T (pairSound k p) → length (p .init) ≤ 4
-  unready-few e t =
-      let a = both (plusZero (p .lo)) (plusZero (p .hi) && leb (length (p .init)) 4) (unready e t) in
-      leb→le (length (p .init)) 4 (both (plusZero (p .hi)) (leb (length (p .init)) 4) (a .1) .1)
-
-  pub ready-sound : p .ready ≡ true → In (k .ditMin) (k .ditMax) (p .lo) → In dahMin dahMax (p .hi) → T (allDurations (p .init)) → T (pairSound k p)
-  ready-sound e i j m =
-      join (state (p .ready)) (allDurations (p .init))
-      (subst (λ (r : Bool). T (state r)) (sym e) (join (within (k .ditMin) (k .ditMax) (p .lo)) (within dahMin dahMax (p .hi)) (outside (k .ditMin) (k .ditMax) (p .lo) i) (outside dahMin dahMax (p .hi) j))) m
-
-  pub unready-sound : p .ready ≡ false → T (plusZero (p .lo)) → T (plusZero (p .hi)) → length (p .init) ≤ 4 → T (allDurations (p .init)) → T (pairSound k p)
-  unready-sound e i j h m =
-      join (state (p .ready)) (allDurations (p .init))
-      (subst (λ (r : Bool). T (state r)) (sym e) (join (plusZero (p .lo)) (plusZero (p .hi) && leb (length (p .init)) 4) i (join (plusZero (p .hi)) (leb (length (p .init)) 4) j (le→leb (length (p .init)) 4 h)))) m
+use Rattle.pair.specs.Sound.{pairSound}
+use Rattle.ring.specs.Ring.{ringSound}
+use Rattle.tracker.specs.Sound.{positiveOr, hintSound, proper, counted, sound}
+use Rattle.marks.proofs.Bounds.{both, join}
 
 -- ---- a sound tracker
 pub record Fine (k : Settings) (m : Tracker) : Type 0 where
@@ -165,9 +84,3 @@ module _ (k : Settings) (t : SpeedTracker) where
   -- a tracker whose view a definition gives is sound where that is
   pub sound-by : (m : Tracker) → (view t ≡ m) × Counted t → T (proper k m) → T (sound k t)
   sound-by m e p = sound-of (e .1) (subst (λ (x : Tracker). T (proper k x)) (sym (e .0)) p)
-
-pub pushed-most : {A : Type 0} (n : ℕ) (l : List A) (x : A) → length (pushed n l x) ≤ n
-pushed-most n l x =
-    let m = l ++ (x ∷ []) in
-    let b : length (drop (length m - n) m) ≡ length m - (length m - n) = length-drop (length m - n) m in
-    omega arith

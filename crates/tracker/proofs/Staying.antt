@@ -9,10 +9,14 @@ use lib.Ieee.{Float, binary32, fits, lt}
 use lib.Ieee.Positive.{positive}
 use Rattle.ranges.specs.Settings.{Settings, Good, Held}
 use Rattle.ranges.specs.Mean.{meanOf}
-use Rattle.tracker.specs.Model.{Tracker, withPair, Pair, withRecent, pushed}
-use Rattle.tracker.specs.Lock.{initialized, constrained, sorted, parts, bimodal, unimodal, asDahs, asDits, locked, learnt, started, observed, anchorsDit, anchorsDah, boundary}
-use Rattle.tracker.specs.Sound.{duration}
-use Rattle.tracker.specs.Steps.{timed, bound, setHint, onGap, canBegin, bootstrapped, seeded, reseeded, settled, turned, gapsSayDahs, resolved, relocked, onMark, durations, uniform, drifts, fragment, drifted, recoveredBy, checked, entry, rung, followed, opened}
+use Rattle.tracker.specs.Model.{Tracker, withPair, withRecent}
+use Rattle.pair.specs.Model.{Pair}
+use Rattle.marks.specs.Lists.{pushed, duration}
+use Rattle.pair.specs.Lock.{initialized, constrained, bimodal, unimodal, asDahs, asDits, locked, learnt, started, observed, anchorsDit, anchorsDah, boundary}
+use Rattle.marks.specs.Sort.{sorted, parts}
+use Rattle.tracker.specs.Steps.{timed, bound, setHint, onGap, canBegin, bootstrapped, seeded, reseeded, settled, resolved, relocked, onMark, fragment, drifted, recoveredBy, checked, rung, followed, opened}
+use Rattle.pair.specs.Readings.{turned, gapsSayDahs}
+use Rattle.ring.specs.Ring.{durations, uniform, drifts, entry}
 use Rattle.tracker.proofs.Keeping.{by-cond, on-false, hint-sane, begin-sane, seed-up, reseed-sane, settled-sane, resolve-sane, on-true, Sane, mark-sane, gap-sane}
 
 -- the calls, with what they are given

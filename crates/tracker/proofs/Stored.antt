@@ -15,11 +15,12 @@ use Rattle.ranges.proofs.Compare.{passed}
 use Rattle.ranges.proofs.Standard.{standard-good, standard-held}
 use Rattle.tracker.specs.Steps.{ditEstimate}
 use Rattle.tracker.specs.declared.SpeedTracker.{SpeedTracker}
-use Rattle.tracker.specs.Model.{Tracker, held, view}
+use Rattle.tracker.specs.Model.{Tracker, view}
+use Rattle.pair.specs.Model.{held}
 use Rattle.tracker.specs.Parts.{Counted}
 use Rattle.tracker.specs.Sound.{sound}
 use Rattle.tracker.proofs.SpeedTracker.{the-type}
-use Rattle.tracker.proofs.Shifting.{unmapped}
+use Rattle.marks.proofs.Shifting.{unmapped}
 use Rattle.tracker.proofs.Soundness.{sound-fine, sound-by, proper-of}
 use Rattle.tracker.proofs.Keeping.{fitsOr, Floats, Sane, ready-dit, ready-dah, ready-estimate}
 

@@ -1,23 +1,13 @@
 -- What a tracker means: lists in place of arrays and counts, and numbers that may be absent. Definitions only.
-use mathlib.Core.Bool.{Bool, true, false, _&&_}
-use mathlib.Core.List.{List, [], _∷_, _++_}
-use mathlib.Core.Option.{Option, none, some}
+use mathlib.Core.Bool.{Bool}
+use mathlib.Core.List.{List}
+use mathlib.Core.Option.{Option}
 use Prim.Native.Nat.{ℕ, _-_}
-use lib.ListN.{length, take, drop}
+use lib.ListN.{take}
 use lib.Ieee.{Float}
-use Rattle.tracker.specs.declared.RingEntry.{RingEntry}
-use Rattle.tracker.specs.declared.ClusterPair.{ClusterPair}
+use Rattle.ring.specs.declared.RingEntry.{RingEntry}
 use Rattle.tracker.specs.declared.SpeedTracker.{SpeedTracker}
-
--- the Rust's `ClusterPair`: dit centroid, dah centroid, start marks, and what is known of the lock
-pub record Pair : Type 0 where
-  pub lo : Float
-  pub hi : Float
-  pub init : List Float
-  pub ready : Bool
-  pub confirmed : Bool
-  pub placeholderIsLo : Bool
-  pub loN : ℕ
+use Rattle.pair.specs.Model.{Pair, held, viewPair}
 
 -- the Rust's `SpeedTracker`, its fields in order
 pub record Tracker : Type 0 where
@@ -31,24 +21,6 @@ pub record Tracker : Type 0 where
   pub recovered : Bool
   pub uncorroborated : Bool
 
--- ---- the view of the program's structs
-
--- a flag and the number that it says is there
-abbrev pub held : Bool → Float → Option Float
-held true x = some x
-held false x = none
-
-abbrev pub viewPair : ClusterPair → Pair
-viewPair p = record {
-  lo = p .lo;
-  hi = p .hi;
-  init = take (p .«init_len») (p .init);
-  ready = p .ready;
-  confirmed = p .confirmed;
-  placeholderIsLo = p .«placeholder_is_lo»;
-  loN = p .«lo_n»;
-}
-
 -- "Places beyond a count and numbers marked absent are no part of a state"
 abbrev pub view : SpeedTracker → Tracker
 view t = record {
@@ -61,52 +33,6 @@ view t = record {
   regime = t .regime;
   recovered = t .«badlock_recovered»;
   uncorroborated = t .«lo_uncorroborated»;
-}
-
--- ---- one part changed
-
-abbrev pub withInit : Pair → List Float → Pair
-withInit p l = record {
-  lo = p .lo;
-  hi = p .hi;
-  init = l;
-  ready = p .ready;
-  confirmed = p .confirmed;
-  placeholderIsLo = p .placeholderIsLo;
-  loN = p .loN;
-}
-
-abbrev pub withCentroids : Pair → Float → Float → Pair
-withCentroids p lo hi = record {
-  lo = lo;
-  hi = hi;
-  init = p .init;
-  ready = p .ready;
-  confirmed = p .confirmed;
-  placeholderIsLo = p .placeholderIsLo;
-  loN = p .loN;
-}
-
-abbrev pub withConfirmed : Pair → Bool → Pair
-withConfirmed p b = record {
-  lo = p .lo;
-  hi = p .hi;
-  init = p .init;
-  ready = p .ready;
-  confirmed = b;
-  placeholderIsLo = p .placeholderIsLo;
-  loN = p .loN;
-}
-
-abbrev pub withPlaceholder : Pair → Bool → Pair
-withPlaceholder p b = record {
-  lo = p .lo;
-  hi = p .hi;
-  init = p .init;
-  ready = p .ready;
-  confirmed = p .confirmed;
-  placeholderIsLo = b;
-  loN = p .loN;
 }
 
 abbrev pub withPair : Tracker → Pair → Tracker
@@ -225,14 +151,3 @@ withUncorroborated t b = record {
   recovered = t .recovered;
   uncorroborated = b;
 }
-
--- ---- lists
-
--- x at the end, and of that the last n: `push_back`, then `pop_front` where there are more than n
-abbrev pub pushed : ℕ → {A : Type 0} → List A → A → List A
-pushed n l x = let m = l ++ (x ∷ []) in drop (length m - n) m
-
--- a test holds of each
-unfoldable pub all : {A : Type 0} → (A → Bool) → List A → Bool
-all p [] = true
-all p (x ∷ xs) = p x && all p xs

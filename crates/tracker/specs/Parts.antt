@@ -2,27 +2,16 @@
 use mathlib.Core.Path.{_≡_}
 use mathlib.Core.Bool.{Bool, true, false}
 use mathlib.Core.Option.{Option, none, some}
-use mathlib.Core.List.{List}
 use Prim.Native.Nat.{_≤_}
-use lib.ListN.{length, take, drop, replicate}
+use lib.ListN.{length, replicate}
 use lib.Dec.{T}
 use lib.Ieee.{Float, binary32, ofBits}
 use Rattle.ranges.specs.Settings.{standard}
-use Rattle.ranges.specs.Mean.{meanOf}
-use Rattle.tracker.specs.declared.inner.lock.Halves.{Halves}
-use Rattle.tracker.specs.declared.RingEntry.{RingEntry}
+use Rattle.ring.specs.declared.RingEntry.{RingEntry}
 use Rattle.tracker.specs.declared.SpeedTracker.{SpeedTracker}
-use Rattle.tracker.specs.declared.inner.resolve.Gaps.{Gaps}
-use Rattle.tracker.specs.Steps.{band}
 use Rattle.tracker.specs.Model.{Tracker, view}
-use Rattle.tracker.specs.Lock.{cut}
-use Rattle.tracker.specs.Sound.{ringSound, allDurations}
-
--- sorted marks, cut
-pub record Halved (s : List Float) (r : Halves) : Type 0 where
-  pub at : r .cut ≡ cut s
-  pub low : r .lo ≡ meanOf (take (cut s) s)
-  pub high : r .hi ≡ meanOf (drop (cut s) s)
+use Rattle.ring.specs.Ring.{ringSound}
+use Rattle.marks.specs.Lists.{allDurations}
 
 -- counts within their arrays
 pub record Counted (t : SpeedTracker) : Type 0 where
@@ -44,11 +33,6 @@ pub record Drivable (m : Tracker) : Type 0 where
 pub record Checkable (t : SpeedTracker) : Type 0 where
   pub counted : Counted t
   pub drivable : Drivable (view t)
-
--- the gaps of a band, in the first places
-pub record Banded (lo : Float) (gaps : List Float) (r : Gaps) : Type 0 where
-  pub few : r .n ≤ 12
-  pub is : take (r .n) (r .at) ≡ band standard lo gaps
 
 -- a tracker where there is one
 abbrev pub other : Bool → SpeedTracker → Option Tracker

@@ -1,51 +1,16 @@
 -- What makes a tracker sound (document 01, refusal 1). Definitions only.
-use mathlib.Core.Bool.{Bool, true, not, cond, _&&_}
-use mathlib.Core.List.{List}
+use mathlib.Core.Bool.{Bool, true, not, _&&_}
 use mathlib.Core.Option.{Option, none, some}
 use lib.Dec.{leb}
-use lib.ListN.{length}
-use lib.Ieee.{Float, eq}
+use lib.Ieee.{Float}
 use lib.Ieee.Positive.{positive}
-use Rattle.order.specs.Order.{negative}
 use Rattle.ranges.specs.Settings.{Settings}
-use Rattle.ranges.specs.Limits.{nought, durationMin, durationMax, dahMin, dahMax}
 use Rattle.ranges.specs.Interval.{within}
-use Rattle.tracker.specs.declared.RingEntry.{RingEntry}
 use Rattle.tracker.specs.declared.SpeedTracker.{SpeedTracker}
-use Rattle.tracker.specs.Model.{Pair, Tracker, view, all}
-
--- "a held duration that 5 to 7 would refuse": from 1/64 to 262144
-abbrev pub duration : Float → Bool
-duration x = within durationMin durationMax x
-
-abbrev pub allDurations : List Float → Bool
-allDurations l = all duration l
-
--- "dit outside 20 to 150 or dah outside 16 to 2,500"
-abbrev pub centroids : Settings → Float → Float → Bool
-centroids k lo hi = within (k .ditMin) (k .ditMax) lo && within dahMin dahMax hi
-
--- "a centroid not +0": a -0 is unsound too
-abbrev pub plusZero : Float → Bool
-plusZero x = eq x nought && not (negative x)
-
--- "unready with a centroid not +0 or more than 4 start marks"
-abbrev pub waiting : Pair → Bool
-waiting p = plusZero (p .lo) && (plusZero (p .hi) && leb (length (p .init)) 4)
-
--- "ready with dit outside .. or dah outside ..", or else that
-abbrev pub pairSettled : Settings → Pair → Bool
-pairSettled k p = cond (p .ready) (centroids k (p .lo) (p .hi)) (waiting p)
-
-abbrev pub pairSound : Settings → Pair → Bool
-pairSound k p = pairSettled k p && allDurations (p .init)
-
--- "a ring entry's centroids outside those ranges", and its held duration
-abbrev pub entrySound : Settings → RingEntry → Bool
-entrySound k e = duration (e .«dur_ms») && centroids k (e .«pre_lo») (e .«pre_hi»)
-
-abbrev pub ringSound : Settings → List RingEntry → Bool
-ringSound k l = all (entrySound k) l
+use Rattle.tracker.specs.Model.{Tracker, view}
+use Rattle.marks.specs.Lists.{allDurations}
+use Rattle.pair.specs.Sound.{pairSound}
+use Rattle.ring.specs.Ring.{ringSound}
 
 -- "a gap centroid or speed average held that is not finite and positive"
 abbrev pub positiveOr : Option Float → Bool

@@ -1,23 +1,24 @@
 -- What the calls of a tracker do (document 01, "ClusterPair and SpeedTracker"; the Rust's `SpeedTracker`). Definitions only.
-use mathlib.Core.Bool.{Bool, true, false, not, cond, _&&_, _||_}
-use mathlib.Core.List.{List, [], _∷_, map}
+use mathlib.Core.Bool.{Bool, true, false, not, cond, _&&_}
+use mathlib.Core.List.{List, [], _∷_}
 use mathlib.Core.Option.{Option, none, some}
 use Prim.Native.Nat.{_+_, _%_, _^_}
 use lib.Dec.{eqb, leb}
-use lib.ListN.{length, getD}
-use lib.Ieee.{Float, nan, binary32, binary64, neg, sub, mul, div, lt, le}
+use lib.ListN.{length}
+use lib.Ieee.{Float, binary32, neg, sub, mul, div, lt}
 use lib.Ieee.Scale.{finite}
-use Rattle.numbers.specs.Root.{sqrtOf}
-use Rattle.order.specs.Order.{abs, clamp}
+use Rattle.order.specs.Order.{clamp}
 use Rattle.ranges.specs.Settings.{Settings}
 use Rattle.ranges.specs.Limits.{nought, half, biasCap, paris, speedWeight}
-use Rattle.ranges.specs.Interval.{within}
 use Rattle.ranges.specs.Average.{average}
-use Rattle.ranges.specs.Mean.{mean64, varianceAbout}
-use Rattle.tracker.specs.Constants.{one, two, three, dahGapFrac, cvMax, offFrac}
-use Rattle.tracker.specs.declared.RingEntry.{RingEntry}
-use Rattle.tracker.specs.Model.{Pair, Tracker, withCentroids, withConfirmed, withPlaceholder, withPair, withRing, withWpm, withRecent, withEgap, withHint, withRegime, withRecovered, withUncorroborated, pushed, all}
-use Rattle.tracker.specs.Lock.{sorted, initialized, constrained, boundary, observed}
+use Rattle.marks.specs.Constants.{one, two}
+use Rattle.ring.specs.declared.RingEntry.{RingEntry}
+use Rattle.pair.specs.Model.{Pair}
+use Rattle.tracker.specs.Model.{Tracker, withPair, withRing, withWpm, withRecent, withEgap, withHint, withRegime, withRecovered, withUncorroborated}
+use Rattle.marks.specs.Lists.{pushed, all}
+use Rattle.pair.specs.Lock.{initialized, constrained, observed}
+use Rattle.pair.specs.Readings.{seedPair, turned, gapsSayDahs, otherPair, hasOther}
+use Rattle.ring.specs.Ring.{durations, allClassed, uniform, drifts, gapSaysDahs, entry}
 
 -- a fresh tracker (`new`)
 abbrev pub fresh : Tracker
@@ -66,44 +67,6 @@ averaged (some w) raw = average binary32 speedWeight w raw
 abbrev pub bound : Settings → Tracker → Tracker
 bound k t = withPair t (constrained k (t .hint) (t .pair))
 
--- ---- drift and fragment recovery (`check_drift`)
-
-abbrev pub durations : List RingEntry → List Float
-durations l = map (λ (e : RingEntry). e .«dur_ms») l
-
--- a mark was classed a dit (true) or a dah (false)
-abbrev pub classed : Bool → RingEntry → Bool
-classed true e = e .«assigned_dit»
-classed false e = not (e .«assigned_dit»)
-
--- every mark of the ring was
-abbrev pub allClassed : Bool → List RingEntry → Bool
-allClassed b l = all (classed b) l
-
--- "12 same-class marks"
-abbrev pub uniform : List RingEntry → Bool
-uniform l = leb 12 (length l) && (allClassed true l || allClassed false l)
-
--- standard deviation over mean, of marks (or gaps) and their mean, in f64: "cv"
-abbrev pub deviation : Float → List Float → Float
-deviation m l = div binary64 (sqrtOf binary64 (varianceAbout m l)) m
-
--- how far a mean lies off a centroid, as a part of the centroid, in f64: "offset"
-abbrev pub offset : Float → Float → Float
-offset m c = div binary64 (abs (sub binary64 m c)) c
-
--- "the first entry's pre-mark centroid", that of the ring's class
-unfoldable pub anchor : List RingEntry → Float
-anchor [] = nan
-anchor (e ∷ es) = cond (allClassed true (e ∷ es)) (e .«pre_lo») (e .«pre_hi»)
-
--- "cv below 0.35, offset above 0.40", for the mean m of the ring
-abbrev pub strays : Float → List RingEntry → Bool
-strays m l = lt (deviation m (durations l)) cvMax && lt offFrac (offset m (anchor l))
-
-abbrev pub drifts : List RingEntry → Bool
-drifts l = strays (mean64 (durations l)) l
-
 -- a new lock from marks: nothing of the old speed stays, and the regime count goes up by one and wraps
 abbrev pub relocked : Settings → Tracker → List Float → Tracker
 relocked k t marks =
@@ -113,11 +76,6 @@ relocked k t marks =
 -- drift reads the recent marks
 abbrev pub drifted : Settings → Tracker → Tracker
 drifted k t = relocked k t (t .recent)
-
--- "no gap centroid below 0.57735 times the ring's fourth least" (`streak_marks_are_dahs` is its contrary)
-abbrev pub gapSaysDahs : Option Float → List RingEntry → Bool
-gapSaysDahs none l = false
-gapSaysDahs (some g) l = lt g (mul binary32 dahGapFrac (getD (sorted (durations l)) 3 nan))
 
 -- "twelve dahs, the dit resting on the lone start mark .. or on a seed, with no dit since, and no gap centroid .."
 abbrev pub fragment : Tracker → Bool
@@ -130,12 +88,6 @@ recoveredBy k t = timed k (withRecovered (relocked k t (durations (t .ring))) tr
 -- drift comes first
 unfoldable pub checked : Settings → Tracker → Tracker
 checked k t = cond (uniform (t .ring)) (cond (drifts (t .ring)) (drifted k t) (cond (fragment t) (recoveredBy k t) t)) t
-
--- ---- one mark (`on_mark`)
-
--- a mark of a tracker that was ready, for the ring: classed "by the boundary after learning", with the centroids before it
-abbrev pub entry : Pair → Pair → Float → RingEntry
-entry before after d = record { «dur_ms» = d; «assigned_dit» = lt d (boundary after); «pre_lo» = before .lo; «pre_hi» = before .hi }
 
 -- the ring takes it, and a dit ends the dit's resting on a lone mark
 abbrev pub rung : Tracker → RingEntry → Tracker
@@ -179,10 +131,6 @@ canBegin t = not (t .pair .ready) && leb 2 (length (t .pair .init))
 unfoldable pub bootstrapped : Settings → Tracker → Tracker
 bootstrapped k t = cond (canBegin t) (timed k (bound k (withPair t (initialized k (t .pair .init))))) t
 
--- `seed_wpm`: the dit of a speed, and a lock on it
-abbrev pub seedPair : Float → Pair
-seedPair dit = record { lo = dit; hi = mul binary32 three dit; init = []; ready = true; confirmed = true; placeholderIsLo = false; loN = 0 }
-
 abbrev pub seedDit : Settings → Float → Float
 seedDit k v = clamp (k .ditMin) (k .ditMax) (div binary32 paris v)
 
@@ -199,36 +147,6 @@ reseeded k t = cond (t .pair .ready) (timed k t) t
 unfoldable pub settled : Tracker → Tracker
 settled t = withRecovered t false
 
--- ---- the gaps between the marks of an unconfirmed lock (`resolve_unimodal_bootstrap`)
-
--- finite, and from 1/6 of the dit up to below 0.57735 of it
-abbrev pub inBand : Settings → Float → Float → Bool
-inBand k lo g =
-    finite g && (le (mul binary32 lo (div binary32 one (k .ratioMax))) g && lt g (mul binary32 lo dahGapFrac))
-
-abbrev pub consIf : Bool → Float → List Float → List Float
-consIf true x l = x ∷ l
-consIf false x l = l
-
-unfoldable pub band : Settings → Float → List Float → List Float
-band k lo [] = []
-band k lo (g ∷ gs) = consIf (inBand k lo g) g (band k lo gs)
-
--- "the in-range gaps must agree": two at least, with a deviation below 0.35
-abbrev pub agree : List Float → Bool
-agree l = leb 2 (length l) && lt (deviation (mean64 l) l) cvMax
-
--- locked on assumed dits, of 60 ms at least
-abbrev pub unsure : Settings → Pair → Bool
-unsure k p = (p .ready && (not (p .confirmed) && not (p .placeholderIsLo))) && (finite (p .lo) && not (lt (p .lo) (mul binary32 three (k .ditMin))))
-
-abbrev pub gapsSayDahs : Settings → Pair → List Float → Bool
-gapsSayDahs k p gaps = unsure k p && agree (band k (p .lo) gaps)
-
--- what was taken for the dit is the dah
-abbrev pub turned : Pair → Pair
-turned p = withConfirmed (withPlaceholder (withCentroids p (div binary32 (p .lo) three) (p .lo)) true) false
-
 unfoldable pub resolved : Settings → Tracker → List Float → Tracker
 resolved k t gaps = cond (gapsSayDahs k (t .pair) gaps) (timed k (bound k (withPair t (turned (t .pair))))) t
 
@@ -244,17 +162,6 @@ elementGaps k t (g ∷ gs) = elementGaps k (elementGap k t g) gs
 
 unfoldable pub fromMarks : Settings → List Float → List Float → Tracker
 fromMarks k marks gaps = timed k (elementGaps k (bound k (withPair fresh (initialized k marks))) gaps)
-
--- "its three-to-one reading": assumed dahs as dits, assumed dits as dahs
-abbrev pub otherPair : Pair → Pair
-otherPair p =
-    cond (p .placeholderIsLo)
-    (record { lo = p .hi; hi = mul binary32 three (p .hi); init = []; ready = true; confirmed = false; placeholderIsLo = false; loN = 0 })
-    (record { lo = div binary32 (p .lo) three; hi = p .lo; init = []; ready = true; confirmed = false; placeholderIsLo = true; loN = 0 })
-
--- there is one for an unconfirmed lock, if its dit is in the dit's limits
-abbrev pub hasOther : Settings → Pair → Bool
-hasOther k p = (p .ready && not (p .confirmed)) && within (k .ditMin) (k .ditMax) (otherPair p .lo)
 
 unfoldable pub threeToOne : Settings → Tracker → Option Tracker
 threeToOne k t = cond (hasOther k (t .pair)) (some (timed k (bound k (withPair fresh (otherPair (t .pair)))))) none

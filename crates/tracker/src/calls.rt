@@ -10,22 +10,23 @@ use crate::Told;
 use crate::inner::begin;
 use crate::inner::gaps;
 use crate::inner::mark;
-use crate::inner::pair;
 use crate::inner::refusals::duration_call;
 use crate::inner::refusals::list_call;
 use crate::inner::refusals::speed_call;
 use crate::inner::resolve;
 use crate::inner::sound::is_sound;
 use crate::inner::speed;
+use pair::inner::pair::boundary;
 ghost use mathlib.Core.Path.{_≡_};
 ghost use lib.Dec.{T};
 ghost use Rattle.ranges.specs.Limits.{durationRefusal};
 ghost use Rattle.ranges.specs.Settings.{standard};
 ghost use Rattle.tracker.specs.Model.{view};
-ghost use Rattle.tracker.specs.Lock.{boundary};
+ghost use Rattle.pair.specs.Lock.{boundary};
 ghost use Rattle.tracker.specs.Parts.{blank};
 ghost use Rattle.tracker.specs.Sound.{sound};
-ghost use Rattle.tracker.specs.Steps.{bootstrapped, canBegin, ditEstimate, fresh, gapsSayDahs, onGap, onMark, reseeded, resolved, seeded, setHint, settled};
+ghost use Rattle.tracker.specs.Steps.{bootstrapped, canBegin, ditEstimate, fresh, onGap, onMark, reseeded, resolved, seeded, setHint, settled};
+ghost use Rattle.pair.specs.Readings.{gapsSayDahs};
 ghost use Rattle.tracker.specs.Answers.{Answers, count, done, flag, listRefusal, number, ofCount, ofFlag, ofReading, ofTold, optional, speedRefusal, stateThen, unless};
 
 impl SpeedTracker {
@@ -75,7 +76,7 @@ impl SpeedTracker {
     {
         if is_sound(self) {
             let p = self.pair;
-            return Reading::Is(pair::boundary(p));
+            return Reading::Is(boundary(p));
         }
         Reading::Refused(1)
     }

@@ -2,15 +2,11 @@
 pub mod begin;
 pub mod drift;
 pub mod gaps;
-pub mod lock;
 pub mod mark;
-pub mod pair;
 pub mod push;
 pub mod refusals;
 pub mod relock;
 pub mod resolve;
 pub mod rivals;
-pub mod sort;
 pub mod sound;
 pub mod speed;
-pub mod sums;

@@ -2,27 +2,8 @@
 pub mod calls;
 pub mod inner;
 
-// One mark of the ring: its length, whether it was classed a dit, and both centroids as they stood before it.
-#[repr(C)]
-pub struct RingEntry {
-    pub dur_ms: f32,
-    pub assigned_dit: bool,
-    pub pre_lo: f32,
-    pub pre_hi: f32,
-}
-
-// Two centroids, and the start marks while there are none.
-#[repr(C)]
-pub struct ClusterPair {
-    pub lo: f32,
-    pub hi: f32,
-    pub init: [f32; 12],
-    pub init_len: usize,
-    pub ready: bool,
-    pub confirmed: bool,
-    pub placeholder_is_lo: bool,
-    pub lo_n: usize,
-}
+use pair::ClusterPair;
+use ring::RingEntry;
 
 // A tracker: an optional number is a flag and a number.
 #[repr(C)]

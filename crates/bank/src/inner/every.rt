@@ -8,7 +8,7 @@ ghost use mathlib.Core.List.{map};
 ghost use lib.Dec.{T};
 ghost use Rattle.numbers.specs.Log.{lnOf};
 ghost use Rattle.ranges.specs.Settings.{standard};
-ghost use Rattle.tracker.specs.Sound.{duration};
+ghost use Rattle.marks.specs.Lists.{duration};
 ghost use Rattle.bank_model.specs.Steps.{marked, gapped, led};
 ghost use Rattle.bank.specs.View.{view};
 ghost use Rattle.bank.specs.Parts.{Crew, Restocked};

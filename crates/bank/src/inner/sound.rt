@@ -1,17 +1,17 @@
 // Whether a bank is sound (document 01, refusal 1).
 use crate::TimingBank;
 use bank_model::SwitchRecord;
+use marks::inner::places::all_durations;
 use ranges::is_duration;
 use rival::inner::sound::is_hyp_sound;
 use rival::inner::sound::is_score;
-use tracker::inner::sound::all_durations;
 ghost use mathlib.Core.Path.{_≡_};
 ghost use mathlib.Core.Bool.{true};
 ghost use Prim.Native.Nat.{_≤_};
 ghost use lib.Dec.{T};
 ghost use lib.ListN.{take};
 ghost use Rattle.ranges.specs.Settings.{standard};
-ghost use Rattle.tracker.specs.Model.{all};
+ghost use Rattle.marks.specs.Lists.{all};
 ghost use Rattle.rival.specs.Sound.{hypSound};
 ghost use Rattle.rival.specs.Parts.{Fit};
 ghost use Rattle.bank.specs.Sound.{recordSound, counted, widthSound, pendingSound, gapSound, streakSound, primarySound, restSound, sound};

@@ -1,20 +1,20 @@
 // How a tracker becomes ready other than by its fifth mark.
-use crate::ClusterPair;
-use crate::RingEntry;
 use crate::SpeedTracker;
-use crate::inner::lock::initialize;
 use crate::inner::speed::bound;
 use crate::inner::speed::timed;
 use order::clamp32;
+use pair::ClusterPair;
+use pair::inner::lock::initialize;
+use pair::inner::readings::seed_pair;
+use ring::RingEntry;
 ghost use mathlib.Core.Path.{_≡_};
 ghost use lib.Dec.{T};
 ghost use lib.Ieee.Positive.{positive};
-ghost use Prim.Native.Nat.{_≤_};
 ghost use Rattle.ranges.specs.Settings.{standard};
-ghost use Rattle.tracker.specs.Model.{view, viewPair};
-ghost use Rattle.tracker.specs.Parts.{Counted, blank};
+ghost use Rattle.tracker.specs.Model.{view};
+ghost use Rattle.tracker.specs.Parts.{blank};
 ghost use Rattle.tracker.specs.Sound.{sound};
-ghost use Rattle.tracker.specs.Steps.{fresh, canBegin, bootstrapped, seedPair, seedDit, seeded, reseeded};
+ghost use Rattle.tracker.specs.Steps.{fresh, canBegin, bootstrapped, seeded, reseeded};
 
 // A fresh tracker.
 pub fn fresh() -> SpeedTracker
@@ -83,21 +83,6 @@ pub fn bootstrap(t: SpeedTracker) -> SpeedTracker
         return timed(bound(u));
     }
     t
-}
-
-// A lock on the dit of a seed.
-pub(crate) fn seed_pair(p: ClusterPair, dit: f32) -> ClusterPair
-    ensures { λ r. ⌜ (viewPair r ≡ seedPair dit) × (r .«init_len» ≤ 12) ⌝ }
-{
-    let mut q = p;
-    q.lo = dit;
-    q.hi = 3.0 * dit;
-    q.init_len = 0;
-    q.ready = true;
-    q.confirmed = true;
-    q.placeholder_is_lo = false;
-    q.lo_n = 0;
-    q
 }
 
 // A seed.

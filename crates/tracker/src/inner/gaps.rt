@@ -5,8 +5,10 @@ use order::is_finite32;
 ghost use mathlib.Core.Path.{_≡_};
 ghost use lib.Dec.{T};
 ghost use Rattle.ranges.specs.Settings.{standard};
-ghost use Rattle.tracker.specs.Model.{held, view};
-ghost use Rattle.tracker.specs.Sound.{duration, sound};
+ghost use Rattle.pair.specs.Model.{held};
+ghost use Rattle.tracker.specs.Model.{view};
+ghost use Rattle.marks.specs.Lists.{duration};
+ghost use Rattle.tracker.specs.Sound.{sound};
 ghost use Rattle.tracker.specs.Steps.{setHint, gapMoved, onGap, settled};
 
 // The hint, clamped; one that is not finite empties it.

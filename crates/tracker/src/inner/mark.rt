@@ -1,35 +1,25 @@
 // One mark (the Rust's `on_mark`).
-use crate::ClusterPair;
-use crate::RingEntry;
 use crate::SpeedTracker;
-use crate::inner::pair::learn;
-use crate::inner::pair::start;
 use crate::inner::push::push_recent;
 use crate::inner::push::push_ring;
 use crate::inner::relock::check;
 use crate::inner::speed::bound;
 use crate::inner::speed::spoken;
-use numbers::inner::below_root;
+use pair::ClusterPair;
+use pair::inner::pair::learn;
+use pair::inner::pair::start;
+use ring::inner::push::entry;
 ghost use mathlib.Core.Path.{_≡_};
 ghost use lib.Dec.{T};
 ghost use Rattle.ranges.specs.Settings.{standard};
-ghost use Rattle.tracker.specs.Model.{view, viewPair};
+ghost use Rattle.tracker.specs.Model.{view};
+ghost use Rattle.pair.specs.Model.{viewPair};
 ghost use Rattle.tracker.specs.Parts.{Counted, Checkable};
-ghost use Rattle.tracker.specs.Sound.{duration, centroids, sound};
-ghost use Rattle.tracker.specs.Steps.{entry, followed, opened, onMark};
-
-// The mark d for the ring: before it the pair was p, after it q.
-pub(crate) fn entry(p: ClusterPair, q: ClusterPair, d: f32) -> RingEntry
-    ensures { λ r. ⌜ r ≡ entry (viewPair p) (viewPair q) d ⌝ }
-{
-    let dit = below_root(d, q.lo * q.hi);
-    RingEntry {
-        dur_ms: d,
-        assigned_dit: dit,
-        pre_lo: p.lo,
-        pre_hi: p.hi,
-    }
-}
+ghost use Rattle.marks.specs.Lists.{duration};
+ghost use Rattle.pair.specs.Sound.{centroids};
+ghost use Rattle.tracker.specs.Sound.{sound};
+ghost use Rattle.ring.specs.Ring.{entry};
+ghost use Rattle.tracker.specs.Steps.{followed, opened, onMark};
 
 // A tracker that was ready with the pair p has learnt d: constraints, ring, drift, speed.
 pub(crate) fn follow(p: ClusterPair, u: SpeedTracker, d: f32) -> SpeedTracker

@@ -1,36 +1,14 @@
 // The last five marks, and the ring of twelve.
-use crate::RingEntry;
 use crate::SpeedTracker;
+use marks::inner::places::shift_recent;
+use ring::RingEntry;
+use ring::inner::push::shift_ring;
 ghost use mathlib.Core.Path.{_≡_};
 ghost use mathlib.Core.Bool.{_&&_, not};
-ghost use mathlib.Core.List.{[], _∷_, _++_};
-ghost use lib.ListN.{drop};
-ghost use Rattle.tracker.specs.Model.{view, pushed, withRecent};
+ghost use Rattle.tracker.specs.Model.{view, withRecent};
+ghost use Rattle.marks.specs.Lists.{pushed};
 ghost use Rattle.tracker.specs.Parts.{Counted};
 ghost use Rattle.tracker.specs.Steps.{rung};
-
-// The oldest of five goes, and d comes.
-pub(crate) fn shift_recent(r: [f32; 5], d: f32) -> [f32; 5]
-    ensures { λ s. ⌜ s ≡ drop 1 r ++ (d ∷ []) ⌝ }
-{
-    [r[1], r[2], r[3], r[4], d]
-}
-
-// The oldest of twelve goes, and e comes.
-pub(crate) fn shift_ring(r: [RingEntry; 12], e: RingEntry) -> [RingEntry; 12]
-    ensures { λ s. ⌜ s ≡ drop 1 r ++ (e ∷ []) ⌝ }
-{
-    let mut out = r;
-    let mut i: usize = 0;
-    while i < 11 {
-        let j = i + 1;
-        let x = out[j];
-        out[i] = x;
-        i = j;
-    }
-    out[11] = e;
-    out
-}
 
 // d is the latest of the recent marks.
 pub(crate) fn push_recent(t: SpeedTracker, d: f32) -> SpeedTracker

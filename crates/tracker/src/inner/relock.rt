@@ -1,12 +1,13 @@
 // A new lock after drift or on a fragment (the second half of the Rust's `check_drift`).
 use crate::SpeedTracker;
-use crate::inner::drift::drifts;
-use crate::inner::drift::durations;
 use crate::inner::drift::fragment;
-use crate::inner::drift::uniform;
-use crate::inner::lock::initialize;
 use crate::inner::speed::bound;
 use crate::inner::speed::timed;
+use marks::inner::places::widened;
+use pair::inner::lock::initialize;
+use ring::inner::drift::drifts;
+use ring::inner::drift::durations;
+use ring::inner::drift::uniform;
 ghost use mathlib.Core.Path.{_≡_};
 ghost use Prim.Native.Nat.{_≤_};
 ghost use lib.ListN.{take};
@@ -35,26 +36,6 @@ pub(crate) fn relock(t: SpeedTracker, marks: [f32; 12], n: usize) -> SpeedTracke
     v
 }
 
-// Five marks at the head of an array of twelve.
-pub(crate) fn widened(r: [f32; 5]) -> [f32; 12]
-    ensures { λ s. ⌜ take 5 s ≡ r ⌝ }
-{
-    [
-        r[0],
-        r[1],
-        r[2],
-        r[3],
-        r[4],
-        0.0,
-        0.0,
-        0.0,
-        0.0,
-        0.0,
-        0.0,
-        0.0,
-    ]
-}
-
 // Drift: a lock from the recent marks.
 pub(crate) fn drifted(t: SpeedTracker) -> SpeedTracker
     requires { ⌜ Checkable t ⌝ }
@@ -71,7 +52,8 @@ pub(crate) fn recovered(t: SpeedTracker) -> SpeedTracker
     requires { ⌜ Full t ⌝ }
     ensures { λ r. ⌜ (view r ≡ recoveredBy standard (view t)) × Counted r ⌝ }
 {
-    let d = durations(t);
+    let ring = t.ring;
+    let d = durations(ring);
     let mut u = relock(t, d, 12);
     u.badlock_recovered = true;
     timed(u)
@@ -82,8 +64,9 @@ pub(crate) fn check(t: SpeedTracker) -> SpeedTracker
     requires { ⌜ Checkable t ⌝ }
     ensures { λ r. ⌜ (view r ≡ checked standard (view t)) × Counted r ⌝ }
 {
-    if uniform(t) {
-        if drifts(t) {
+    let ring = t.ring;
+    if uniform(ring, t.ring_len) {
+        if drifts(ring) {
             return drifted(t);
         }
         if fragment(t) {

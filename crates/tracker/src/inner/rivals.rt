@@ -1,40 +1,28 @@
 // Trackers that a bank makes (the Rust's `from_marks` and `three_to_one_alternative`).
-use crate::ClusterPair;
 use crate::SpeedTracker;
 use crate::inner::begin::fresh;
 use crate::inner::gaps::on_element_gap;
-use crate::inner::lock::initialize;
 use crate::inner::speed::bound;
 use crate::inner::speed::dit_estimate;
 use crate::inner::speed::timed;
-use ranges::within;
+use marks::inner::places::copied;
+use pair::inner::lock::initialize;
+use pair::inner::readings::has_other;
+use pair::inner::readings::other_pair;
 ghost use mathlib.Core.Path.{_≡_};
 ghost use mathlib.Core.Bool.{true, false};
 ghost use Prim.Native.Nat.{_≤_, _<_};
 ghost use lib.Dec.{T};
-ghost use lib.ListN.{length, take};
+ghost use lib.ListN.{length};
 ghost use Rattle.ranges.specs.Limits.{durationMin, durationMax};
 ghost use Rattle.ranges.specs.Interval.{AllIn};
 ghost use Rattle.ranges.specs.Settings.{standard};
-ghost use Rattle.tracker.specs.Model.{view, viewPair, withPair};
-ghost use Rattle.tracker.specs.Parts.{Counted, other};
-ghost use Rattle.tracker.specs.Lock.{initialized};
-ghost use Rattle.tracker.specs.Sound.{duration, sound};
-ghost use Rattle.tracker.specs.Steps.{fresh, bound, elementGap, elementGaps, fromMarks, otherPair, hasOther, threeToOne};
-
-// Up to twelve marks at the head of an array of twelve.
-pub(crate) fn copied(marks: &[f32]) -> [f32; 12]
-    requires { ⌜ length (now marks) ≤ 12 ⌝ }
-    ensures { λ r. ⌜ take (length (now (marks .entry))) r ≡ now (marks .entry) ⌝ }
-{
-    let mut out = [0.0f32; 12];
-    let mut i: usize = 0;
-    while i < marks.len() {
-        out[i] = marks[i];
-        i += 1;
-    }
-    out
-}
+ghost use Rattle.tracker.specs.Model.{view, withPair};
+ghost use Rattle.tracker.specs.Parts.{other};
+ghost use Rattle.pair.specs.Lock.{initialized};
+ghost use Rattle.marks.specs.Lists.{duration};
+ghost use Rattle.tracker.specs.Sound.{sound};
+ghost use Rattle.tracker.specs.Steps.{fresh, bound, elementGap, elementGaps, fromMarks, threeToOne};
 
 // A fresh tracker with a lock from marks.
 pub(crate) fn locked(marks: &[f32]) -> SpeedTracker
@@ -87,41 +75,6 @@ pub fn from_marks(marks: &[f32], gaps: &[f32]) -> SpeedTracker
     let t = locked(marks);
     let u = element_gaps(t, gaps);
     timed(u)
-}
-
-// The pair of the three-to-one reading.
-pub(crate) fn other_pair(p: ClusterPair) -> ClusterPair
-    ensures { λ r. ⌜ (viewPair r ≡ otherPair (viewPair p)) × (r .«init_len» ≤ 12) ⌝ }
-{
-    let mut q = p;
-    q.init_len = 0;
-    q.ready = true;
-    q.confirmed = false;
-    q.lo_n = 0;
-    if p.placeholder_is_lo {
-        q.lo = p.hi;
-        q.hi = 3.0 * p.hi;
-        q.placeholder_is_lo = false;
-        return q;
-    }
-    q.lo = p.lo / 3.0;
-    q.hi = p.lo;
-    q.placeholder_is_lo = true;
-    q
-}
-
-// Whether a pair has a three-to-one reading whose dit is in its limits.
-pub(crate) fn has_other(p: ClusterPair) -> bool
-    ensures { λ r. ⌜ r ≡ hasOther standard (viewPair p) ⌝ }
-{
-    if p.ready {
-        if p.confirmed {
-            return false;
-        }
-        let q = other_pair(p);
-        return within(q.lo, 20.0, 150.0);
-    }
-    false
 }
 
 // A tracker where there is one.

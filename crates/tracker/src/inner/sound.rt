@@ -1,116 +1,16 @@
 // Whether a tracker is sound (document 01, refusal 1).
-use crate::ClusterPair;
-use crate::RingEntry;
 use crate::SpeedTracker;
-use order::negative32;
-use ranges::is_duration;
+use marks::inner::places::all_durations;
+use pair::inner::sound::is_pair_sound;
 use ranges::is_positive;
 use ranges::within;
+use ring::inner::sound::is_ring_sound;
 ghost use mathlib.Core.Path.{_≡_};
-ghost use Prim.Native.Nat.{_≤_};
 ghost use Rattle.ranges.specs.Settings.{standard};
-ghost use Rattle.tracker.specs.Model.{held, view, viewPair};
+ghost use Rattle.pair.specs.Model.{held};
+ghost use Rattle.tracker.specs.Model.{view};
 ghost use Rattle.tracker.specs.Parts.{Counted};
-ghost use Rattle.tracker.specs.Sound.{allDurations, centroids, plusZero, waiting, pairSettled, pairSound, entrySound, ringSound, positiveOr, hintSound, restSound, proper, counted, sound};
-
-// Whether each is a duration.
-pub fn all_durations(xs: &[f32]) -> bool
-    ensures { λ r. ⌜ r ≡ allDurations (now (xs .entry)) ⌝ }
-{
-    let mut i: usize = 0;
-    while i < xs.len() {
-        let x = xs[i];
-        i += 1;
-        if !is_duration(x) {
-            return false;
-        }
-    }
-    true
-}
-
-// Whether both centroids lie in their ranges.
-pub(crate) fn are_centroids(lo: f32, hi: f32) -> bool
-    ensures { λ r. ⌜ r ≡ centroids standard lo hi ⌝ }
-{
-    if within(lo, 20.0, 150.0) {
-        return within(hi, 16.0, 2500.0);
-    }
-    false
-}
-
-// Whether x is +0.
-pub(crate) fn is_plus_zero(x: f32) -> bool
-    ensures { λ r. ⌜ r ≡ plusZero x ⌝ }
-{
-    if x == 0.0 {
-        return !negative32(x);
-    }
-    false
-}
-
-// Whether an unready pair has no centroids and at most 4 start marks.
-pub(crate) fn is_waiting(p: ClusterPair) -> bool
-    requires { ⌜ p .«init_len» ≤ 12 ⌝ }
-    ensures { λ r. ⌜ r ≡ waiting (viewPair p) ⌝ }
-{
-    if is_plus_zero(p.lo) {
-        if is_plus_zero(p.hi) {
-            return p.init_len <= 4;
-        }
-    }
-    false
-}
-
-// Whether the centroids of a pair are those of its state.
-pub(crate) fn is_settled(p: ClusterPair) -> bool
-    requires { ⌜ p .«init_len» ≤ 12 ⌝ }
-    ensures { λ r. ⌜ r ≡ pairSettled standard (viewPair p) ⌝ }
-{
-    if p.ready {
-        return are_centroids(p.lo, p.hi);
-    }
-    is_waiting(p)
-}
-
-// Whether a pair is sound.
-pub(crate) fn is_pair_sound(p: ClusterPair) -> bool
-    requires { ⌜ p .«init_len» ≤ 12 ⌝ }
-    ensures { λ r. ⌜ r ≡ pairSound standard (viewPair p) ⌝ }
-{
-    if is_settled(p) {
-        let init = p.init;
-        let n = p.init_len;
-        return all_durations(&init[..n]);
-    }
-    false
-}
-
-// Whether a mark of the ring is sound.
-pub(crate) fn is_entry_sound(e: RingEntry) -> bool
-    ensures { λ r. ⌜ r ≡ entrySound standard e ⌝ }
-{
-    if is_duration(e.dur_ms) {
-        return are_centroids(e.pre_lo, e.pre_hi);
-    }
-    false
-}
-
-// Whether the ring is sound.
-pub(crate) fn is_ring_sound(t: SpeedTracker) -> bool
-    requires { ⌜ Counted t ⌝ }
-    ensures { λ r. ⌜ r ≡ ringSound standard (view t .ring) ⌝ }
-{
-    let n = t.ring_len;
-    let mut i: usize = 0;
-    while i < n {
-        let e = t.ring[i];
-        i += 1;
-        if !is_entry_sound(e) {
-            return false;
-        }
-    }
-    true
-}
+ghost use Rattle.tracker.specs.Sound.{positiveOr, hintSound, restSound, proper, counted, sound};
 
 // Whether a number is positive, where there is one.
 pub(crate) fn is_positive_or(is: bool, x: f32) -> bool
@@ -156,7 +56,8 @@ pub(crate) fn is_proper(t: SpeedTracker) -> bool
 {
     let p = t.pair;
     if is_pair_sound(p) {
-        if is_ring_sound(t) {
+        let ring = t.ring;
+        if is_ring_sound(ring, t.ring_len) {
             return is_rest_sound(t);
         }
     }

@@ -1,10 +1,11 @@
 // The dit estimate, the speed and its average, and the constraints of a tracker.
 use crate::SpeedTracker;
-use crate::inner::pair::constrain;
 use order::clamp32;
+use pair::inner::pair::constrain;
 ghost use mathlib.Core.Path.{_≡_};
 ghost use Rattle.ranges.specs.Settings.{standard};
-ghost use Rattle.tracker.specs.Model.{held, view};
+ghost use Rattle.pair.specs.Model.{held};
+ghost use Rattle.tracker.specs.Model.{view};
 ghost use Rattle.tracker.specs.Parts.{Counted};
 ghost use Rattle.tracker.specs.Steps.{bias, estimate, ditEstimate, speed, timed, averaged, bound, spoken};
 

@@ -1,6 +1,6 @@
 -- `tracker_replay::list_call` lends as many gaps as there are. Assumes nothing.
 use native.Mathlib.Omega.{arith}
-use Rattle.tracker.proofs.Cutting.{front-long}
+use Rattle.marks.proofs.Cutting.{front-long}
 use borrow.Author.Needs.{needs}
 use Rattle.tracker_replay.proofs.list_call.Statement.{statement}
 use Rattle.tracker_replay.proofs.list_call.Tie as tie

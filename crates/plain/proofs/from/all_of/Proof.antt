@@ -3,7 +3,7 @@ use mathlib.Core.Path.{_≡_}
 use Prim.Native.Nat.{_-_}
 use lib.ListN.{length}
 use borrow.Author.Needs.{needs}
-use Rattle.tracker.proofs.Shifting.{unmapped}
+use Rattle.marks.proofs.Shifting.{unmapped}
 use Rattle.plain.specs.Plain.{hypOf}
 use Rattle.plain.proofs.Filling.{Filling, fill-begins, fill-turns, fill-ends}
 use Rattle.plain.proofs.from.all_of.Statement.{statement}

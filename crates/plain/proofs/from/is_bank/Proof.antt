@@ -5,9 +5,9 @@ use Prim.Native.Nat.{_-_, _≤_}
 use native.Mathlib.Omega.{arith}
 use lib.ListN.{length, take}
 use borrow.Author.Needs.{needs}
-use Rattle.tracker.specs.Model.{all}
-use Rattle.tracker.proofs.Testing.{Testing, test-begins, test-turns, test-fails, test-ends, tested, places}
-use Rattle.tracker.proofs.Shifting.{unmapped}
+use Rattle.marks.specs.Lists.{all}
+use Rattle.marks.proofs.Testing.{Testing, test-begins, test-turns, test-fails, test-ends, tested, places}
+use Rattle.marks.proofs.Shifting.{unmapped}
 use Rattle.plain.specs.declared.PlainHypothesis.{PlainHypothesis}
 use Rattle.plain.specs.Plain.{named, isBank}
 use Rattle.plain.proofs.Filling.{take-capped, capped-at}

@@ -1,7 +1,7 @@
 use Rattle.bank.proofs.Hearing.{dropped, gap-heard, mark-heard, primary-mark, gap-by, mark-heard-by, silent-told, live-told, mark-told}
 use Rattle.rival.proofs.Each.{gap-scored}
 use Rattle.ranges.proofs.Durations.{duration-positive}
-use Rattle.tracker.proofs.Ringing.{inside}
+use Rattle.marks.proofs.Bounds.{inside}
 use Rattle.ranges.specs.Limits.{durationMin, durationMax}
 use Rattle.tracker.specs.Model as Tracked
 use Rattle.ranges.specs.Settings.{standard}

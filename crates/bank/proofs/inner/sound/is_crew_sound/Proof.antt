@@ -4,7 +4,7 @@ use mathlib.Core.Path.{_≡_}
 use Prim.Native.Nat.{_-_}
 use native.Mathlib.Omega.{arith}
 use lib.ListN.{length}
-use Rattle.tracker.proofs.Shifting.{unmapped}
+use Rattle.marks.proofs.Shifting.{unmapped}
 use Rattle.bank.proofs.Sounding.{Trying, try-begins, try-fails, try-turns, try-ends}
 use Rattle.bank.proofs.inner.sound.is_crew_sound.Statement.{statement}
 use Rattle.bank.proofs.inner.sound.is_crew_sound.Tie as tie

@@ -4,8 +4,8 @@ use mathlib.Core.Path.{_≡_, refl}
 use Prim.Native.Nat.{_-_}
 use native.Mathlib.Omega.{arith}
 use lib.ListN.{length, take}
-use Rattle.tracker.proofs.Testing.{Testing, test-begins, test-turns, test-fails, test-ends, tested, places}
-use Rattle.tracker.proofs.Shifting.{unmapped}
+use Rattle.marks.proofs.Testing.{Testing, test-begins, test-turns, test-fails, test-ends, tested, places}
+use Rattle.marks.proofs.Shifting.{unmapped}
 use Rattle.bank.specs.Sound.{recordSound}
 use Rattle.bank.proofs.inner.sound.is_log_sound.Statement.{statement}
 use Rattle.bank.proofs.inner.sound.is_log_sound.Tie as tie

@@ -2,7 +2,7 @@
 use mathlib.Core.Path.{_≡_, refl, ap, sym, _∙_}
 use lib.ListN.{length}
 use Rattle.ranges.proofs.Compare.{passed}
-use Rattle.tracker.proofs.Shifting.{unmapped}
+use Rattle.marks.proofs.Shifting.{unmapped}
 use Rattle.bank.proofs.Sounding.{counts, judged, crew-not, narrow-not, uncounted}
 use borrow.Author.Needs.{needs}
 use Rattle.bank.proofs.inner.sound.is_sound.Statement.{statement}

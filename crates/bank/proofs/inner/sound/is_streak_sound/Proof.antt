@@ -3,7 +3,7 @@ use mathlib.Core.Path.{_≡_, refl, ap, sym, _∙_}
 use borrow.Author.Tests.{le-leb, lt-leb, lt-ltb, le-ltb}
 use native.Mathlib.Omega.{arith}
 use lib.ListN.{length}
-use Rattle.tracker.proofs.Cutting.{front-long}
+use Rattle.marks.proofs.Cutting.{front-long}
 use borrow.Author.Needs.{needs}
 use Rattle.bank.proofs.inner.sound.is_streak_sound.Statement.{statement}
 use Rattle.bank.proofs.inner.sound.is_streak_sound.Tie as tie

@@ -1,4 +1,4 @@
-use Rattle.tracker.proofs.Shifting.{Shifting, shift-begins, shift-turns, shift-ends}
+use Rattle.marks.proofs.Shifting.{Shifting, shift-begins, shift-turns, shift-ends}
 use Prim.Native.Nat.{_-_, ℕ}
 use mathlib.Core.Path.{_≡_, refl, ap, sym, _∙_}
 use native.Mathlib.Omega.{arith}

@@ -5,12 +5,14 @@ use borrow.Author.Needs.{needs}
 use Rattle.ranges.proofs.Standard.{standard-good, standard-held}
 use Rattle.ranges.specs.Settings.{standard}
 use Rattle.tracker.specs.Steps.{timed, bound}
-use Rattle.tracker.specs.Model.{Pair, withPair, view}
+use Rattle.pair.specs.Model.{Pair}
+use Rattle.tracker.specs.Model.{withPair, view}
 use Rattle.tracker.proofs.Keeping.{begin-sane}
 use Rattle.tracker.proofs.Relocking.{begins, begins-not, begin-counts}
 use Rattle.tracker.proofs.Stored.{init-long, sane-of, still}
-use Rattle.tracker.proofs.Soundness.{counts, sound-fine, pair-init}
-use Rattle.tracker.proofs.Ringing.{durations-in}
+use Rattle.tracker.proofs.Soundness.{counts, sound-fine}
+use Rattle.pair.proofs.Soundness.{pair-init}
+use Rattle.marks.proofs.Bounds.{durations-in}
 use Rattle.tracker.proofs.inner.begin.bootstrap.Statement.{statement}
 use Rattle.tracker.proofs.inner.begin.bootstrap.Tie as tie
 

@@ -2,7 +2,7 @@
 use mathlib.Core.Path.{refl}
 use lib.Ieee.{ofBits, eq}
 use Rattle.tracker.specs.Sound.{sound, proper}
-use Rattle.tracker.specs.Model.{all}
+use Rattle.marks.specs.Lists.{all}
 use Rattle.tracker.proofs.inner.begin.fresh.Statement.{statement}
 use Rattle.tracker.proofs.inner.begin.fresh.Tie as tie
 

@@ -6,8 +6,10 @@ use mathlib.Core.Path.{ap, _∙_}
 use borrow.Author.Needs.{needs}
 use Rattle.ranges.proofs.Standard.{standard-good, standard-held}
 use Rattle.ranges.specs.Settings.{standard}
-use Rattle.tracker.specs.Model.{Pair, withPair, withRing, withRecent, withEgap, withUncorroborated, view}
-use Rattle.tracker.specs.Steps.{timed, seedPair, seeded}
+use Rattle.pair.specs.Model.{Pair}
+use Rattle.tracker.specs.Model.{withPair, withRing, withRecent, withEgap, withUncorroborated, view}
+use Rattle.tracker.specs.Steps.{timed, seeded}
+use Rattle.pair.specs.Readings.{seedPair}
 use Rattle.tracker.proofs.Keeping.{seed-up}
 use Rattle.tracker.proofs.Stored.{sane-of, still}
 use Rattle.tracker.proofs.inner.begin.seed_wpm.Statement.{statement}

@@ -1,7 +1,8 @@
 -- `tracker::inner::mark::follow` meets its contract. Assumes nothing.
 use borrow.Author.Needs.{needs}
 use Rattle.ranges.specs.Settings.{standard}
-use Rattle.tracker.specs.Model.{view, viewPair}
+use Rattle.tracker.specs.Model.{view}
+use Rattle.pair.specs.Model.{viewPair}
 use Rattle.tracker.proofs.Marking.{follows, entry-is, rung-drivable}
 use Rattle.tracker.proofs.inner.mark.follow.Statement.{statement}
 use Rattle.tracker.proofs.inner.mark.follow.Tie as tie

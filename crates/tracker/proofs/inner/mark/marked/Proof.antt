@@ -3,10 +3,12 @@ use native.Mathlib.Omega.{arith}
 use borrow.Author.Needs.{needs}
 use Rattle.ranges.specs.Limits.{durationMin, durationMax}
 use Rattle.ranges.specs.Settings.{standard}
-use Rattle.tracker.specs.Model.{view, viewPair}
+use Rattle.tracker.specs.Model.{view}
+use Rattle.pair.specs.Model.{viewPair}
 use Rattle.tracker.proofs.Marking.{marks-ready, marks-unready, heard-drivable}
-use Rattle.tracker.proofs.Soundness.{counts, sound-fine, pair-init, ready-centroids, unready-few}
-use Rattle.tracker.proofs.Ringing.{inside, durations-in}
+use Rattle.tracker.proofs.Soundness.{counts, sound-fine}
+use Rattle.pair.proofs.Soundness.{pair-init, ready-centroids, unready-few}
+use Rattle.marks.proofs.Bounds.{inside, durations-in}
 use Rattle.tracker.proofs.inner.mark.marked.Statement.{statement}
 use Rattle.tracker.proofs.inner.mark.marked.Tie as tie
 

@@ -6,7 +6,7 @@ use lib.Ieee.{Float}
 use lib.ListN.{length}
 use borrow.Author.Needs.{needs}
 use Rattle.tracker.specs.Model.{view, withRecent}
-use Rattle.tracker.proofs.Shifting.{push-room, push-full}
+use Rattle.marks.proofs.Shifting.{push-room, push-full}
 use Rattle.tracker.proofs.inner.push.push_recent.Statement.{statement}
 use Rattle.tracker.proofs.inner.push.push_recent.Tie as tie
 

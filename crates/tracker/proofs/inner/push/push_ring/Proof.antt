@@ -5,9 +5,10 @@ use mathlib.Core.Path.{_≡_, ap, _∙_}
 use native.Mathlib.Omega.{arith}
 use lib.ListN.{length, take}
 use borrow.Author.Needs.{needs}
-use Rattle.tracker.specs.Model.{view, withRing, withUncorroborated, pushed}
-use Rattle.tracker.specs.declared.RingEntry.{RingEntry}
-use Rattle.tracker.proofs.Shifting.{push-room, push-full, unmapped}
+use Rattle.tracker.specs.Model.{view, withRing, withUncorroborated}
+use Rattle.marks.specs.Lists.{pushed}
+use Rattle.ring.specs.declared.RingEntry.{RingEntry}
+use Rattle.marks.proofs.Shifting.{push-room, push-full, unmapped}
 use Rattle.tracker.proofs.inner.push.push_ring.Statement.{statement}
 use Rattle.tracker.proofs.inner.push.push_ring.Tie as tie
 

@@ -3,10 +3,10 @@ use mathlib.Core.Path.{_≡_, sym, _∙_}
 use lib.ListN.{length}
 use borrow.Author.Needs.{needs}
 use Rattle.ranges.specs.Settings.{standard}
-use Rattle.tracker.specs.Steps.{drifts}
+use Rattle.ring.specs.Ring.{drifts}
 use Rattle.tracker.specs.Model.{view}
 use Rattle.tracker.proofs.Relocking.{full-of, drifts-at, checked-drifts, checked-recovers, checked-stays, checked-mixed}
-use Rattle.tracker.proofs.Shifting.{unmapped}
+use Rattle.marks.proofs.Shifting.{unmapped}
 use Rattle.tracker.proofs.inner.relock.check.Statement.{statement}
 use Rattle.tracker.proofs.inner.relock.check.Tie as tie
 
@@ -15,19 +15,19 @@ uniform-requires c κs = search needs
 
 drifts-requires : tie.Need-drifts-requires
 drifts-requires c κs =
-    let s = c .before .before in
+    let s = c .before .before .before in
     let t = s .args .t in
     let l : length (t .ring) ≡ 12 = search (unmapped, needs) in
     let u = sym (c .before .uniform .ensures) ∙ c .if1 .taken in
     let f = full-of t l (s .pre) u in
-    f
+    f .ring
 
 drifted-requires : tie.Need-drifted-requires
 drifted-requires c κs = search needs
 
 returns : tie.Need-returns
 returns c =
-    let s = c .before .before .before .before .before in
+    let s = c .before .before .before .before .before .before in
     let t = s .args .t in
     let l : length (t .ring) ≡ 12 = search (unmapped, needs) in
     let u = sym (c .before .before .before .before .uniform .ensures) ∙ c .before .before .before .if1 .taken in
@@ -36,7 +36,7 @@ returns c =
 
 fragment-requires : tie.Need-fragment-requires
 fragment-requires c κs =
-    let s = c .before .before .before .before in
+    let s = c .before .before .before .before .before in
     let t = s .args .t in
     let l : length (t .ring) ≡ 12 = search (unmapped, needs) in
     let u = sym (c .before .before .before .uniform .ensures) ∙ c .before .before .if1 .taken in
@@ -45,7 +45,7 @@ fragment-requires c κs =
 
 recovered-requires : tie.Need-recovered-requires
 recovered-requires c κs =
-    let s = c .before .before .before .before .before .before in
+    let s = c .before .before .before .before .before .before .before in
     let t = s .args .t in
     let l : length (t .ring) ≡ 12 = search (unmapped, needs) in
     let u = sym (c .before .before .before .before .before .uniform .ensures) ∙ c .before .before .before .before .if1 .taken in
@@ -54,7 +54,7 @@ recovered-requires c κs =
 
 returns-2 : tie.Need-returns-2
 returns-2 c =
-    let s = c .before .before .before .before .before .before .before in
+    let s = c .before .before .before .before .before .before .before .before in
     let t = s .args .t in
     let l : length (t .ring) ≡ 12 = search (unmapped, needs) in
     let u = sym (c .before .before .before .before .before .before .uniform .ensures) ∙ c .before .before .before .before .before .if1 .taken in
@@ -63,7 +63,7 @@ returns-2 c =
 
 returns-3 : tie.Need-returns-3
 returns-3 c =
-    let s = c .before .before .before .before .before .before in
+    let s = c .before .before .before .before .before .before .before in
     let t = s .args .t in
     let l : length (t .ring) ≡ 12 = search (unmapped, needs) in
     let u = sym (c .before .before .before .before .before .uniform .ensures) ∙ c .before .before .before .before .if1 .taken in
@@ -71,7 +71,7 @@ returns-3 c =
     (checked-stays standard (view t) u (drifts-at t _ _ l f (c .before .before .before .drifts .ensures) (c .before .before .if2 .left)) (sym (c .before .fragment .ensures) ∙ c .if3 .left), s .pre .counted)
 
 returns-4 : tie.Need-returns-4
-returns-4 c = (checked-mixed standard (view (c .before .before .args .t)) (sym (c .before .uniform .ensures) ∙ c .if1 .left), c .before .before .pre .counted)
+returns-4 c = (checked-mixed standard (view (c .before .before .before .args .t)) (sym (c .before .uniform .ensures) ∙ c .if1 .left), c .before .before .before .pre .counted)
 
 pub check-spec : {M : Type 1} → statement M
 check-spec =

@@ -5,8 +5,9 @@ use borrow.Author.Needs.{needs}
 use Rattle.ranges.specs.Settings.{standard}
 use Rattle.tracker.specs.Steps.{relocked}
 use Rattle.tracker.specs.Model.{view}
-use Rattle.tracker.proofs.Ringing.{durations-in}
-use Rattle.tracker.proofs.Relocking.{wider, some-count}
+use Rattle.marks.proofs.Bounds.{durations-in}
+use Rattle.marks.proofs.Places.{wider}
+use Rattle.tracker.proofs.Relocking.{some-count}
 use Rattle.tracker.proofs.inner.relock.drifted.Statement.{statement}
 use Rattle.tracker.proofs.inner.relock.drifted.Tie as tie
 

@@ -7,7 +7,8 @@ use Prim.Native.Nat.{_+_, _%_, _^_}
 use borrow.Author.Needs.{needs}
 use Rattle.ranges.specs.Settings.{standard}
 use Rattle.tracker.specs.Steps.{bound}
-use Rattle.tracker.specs.Model.{Pair, Tracker, view, withPair, withRing, withEgap, withRegime, withUncorroborated}
+use Rattle.pair.specs.Model.{Pair}
+use Rattle.tracker.specs.Model.{Tracker, view, withPair, withRing, withEgap, withRegime, withUncorroborated}
 use Rattle.tracker.proofs.inner.relock.relock.Statement.{statement}
 use Rattle.tracker.proofs.inner.relock.relock.Tie as tie
 

@@ -5,9 +5,10 @@ use borrow.Author.Needs.{needs}
 use Rattle.ranges.proofs.Standard.{standard-good, standard-held}
 use Rattle.ranges.specs.Settings.{standard}
 use Rattle.tracker.specs.Steps.{timed, bound}
-use Rattle.tracker.specs.Model.{Pair, withPair, view}
+use Rattle.pair.specs.Model.{Pair}
+use Rattle.tracker.specs.Model.{withPair, view}
 use Rattle.tracker.proofs.Keeping.{resolve-sane}
-use Rattle.tracker.proofs.Banding.{resolves, resolves-not}
+use Rattle.tracker.proofs.Rivalling.{resolves, resolves-not}
 use Rattle.tracker.proofs.Soundness.{counts}
 use Rattle.tracker.proofs.Stored.{sane-of, still}
 use Rattle.tracker.proofs.inner.resolve.resolve_unimodal_bootstrap.Statement.{statement}

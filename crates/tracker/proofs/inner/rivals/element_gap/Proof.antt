@@ -4,7 +4,7 @@ use mathlib.Core.Path.{refl, ap, sym, _∙_}
 use lib.Ieee.{Float, binary32, mul, lt}
 use borrow.Author.Needs.{needs}
 use Rattle.ranges.specs.Settings.{standard}
-use Rattle.tracker.specs.Constants.{two}
+use Rattle.marks.specs.Constants.{two}
 use Rattle.tracker.specs.Model.{view}
 use Rattle.tracker.proofs.Rivalling.{gap-heard}
 use Rattle.tracker.proofs.inner.rivals.element_gap.Statement.{statement}

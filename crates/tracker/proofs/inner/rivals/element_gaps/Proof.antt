@@ -8,7 +8,7 @@ use Rattle.ranges.specs.Limits.{durationMin, durationMax}
 use Rattle.ranges.specs.Settings.{standard}
 use Rattle.tracker.specs.Model.{view}
 use Rattle.tracker.proofs.Rivalling.{Hearing, hear-begins, hear-turns, hear-ends}
-use Rattle.tracker.proofs.Soundness.{outside}
+use Rattle.marks.proofs.Bounds.{outside}
 use Rattle.tracker.proofs.inner.rivals.element_gaps.Statement.{statement}
 use Rattle.tracker.proofs.inner.rivals.element_gaps.Tie as tie
 

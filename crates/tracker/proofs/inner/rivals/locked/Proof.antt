@@ -5,8 +5,9 @@ use borrow.Author.Needs.{needs}
 use Rattle.ranges.proofs.Standard.{standard-good, standard-held}
 use Rattle.ranges.specs.Settings.{standard}
 use Rattle.tracker.specs.Steps.{fresh, bound}
-use Rattle.tracker.specs.Lock.{initialized}
-use Rattle.tracker.specs.Model.{Pair, Tracker, viewPair, withPair}
+use Rattle.pair.specs.Lock.{initialized}
+use Rattle.pair.specs.Model.{Pair, viewPair}
+use Rattle.tracker.specs.Model.{Tracker, withPair}
 use Rattle.tracker.proofs.Keeping.{locked-up, rest-of, fresh-sane}
 use Rattle.tracker.proofs.Soundness.{counts}
 use Rattle.tracker.proofs.Stored.{still}

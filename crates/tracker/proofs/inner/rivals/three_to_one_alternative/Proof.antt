@@ -5,10 +5,13 @@ use Rattle.tracker.proofs.inner.rivals.three_to_one_alternative.Tie as 
 use borrow.Author.Needs.{needs}
 use Rattle.ranges.proofs.Standard.{standard-good, standard-held}
 use Rattle.ranges.specs.Settings.{standard}
-use Rattle.tracker.specs.Steps.{timed, bound, fresh, otherPair}
-use Rattle.tracker.specs.Model.{Pair, Tracker, withPair, viewPair, view}
+use Rattle.tracker.specs.Steps.{timed, bound, fresh}
+use Rattle.pair.specs.Readings.{otherPair}
+use Rattle.pair.specs.Model.{Pair, viewPair}
+use Rattle.tracker.specs.Model.{Tracker, withPair, view}
 use Rattle.tracker.proofs.Keeping.{other-up}
-use Rattle.tracker.proofs.Rivalling.{other-is, other-not, other-ready}
+use Rattle.tracker.proofs.Rivalling.{other-is, other-not}
+use Rattle.pair.proofs.Reading.{other-ready}
 use Rattle.tracker.proofs.Stored.{sane-of, still}
 use Rattle.tracker.proofs.Soundness.{counts}
 

@@ -16,11 +16,11 @@ is-rest-sound-requires c κs = search needs
 
 returns : tie.Need-returns
 unfolding proper
-returns c = rw (sym (c .before .before .before .before .is-pair-sound .ensures) ∙ c .before .before .before .if1 .taken, sym (c .before .before .is-ring-sound .ensures) ∙ c .before .if2 .taken) (c .is-rest-sound .ensures)
+returns c = rw (sym (c .before .before .before .before .before .is-pair-sound .ensures) ∙ c .before .before .before .before .if1 .taken, sym (c .before .before .is-ring-sound .ensures) ∙ c .before .if2 .taken) (c .is-rest-sound .ensures)
 
 returns-2 : tie.Need-returns-2
 unfolding proper
-returns-2 c = rw (sym (c .before .before .before .is-pair-sound .ensures) ∙ c .before .before .if1 .taken, sym (c .before .is-ring-sound .ensures) ∙ c .if2 .left)
+returns-2 c = rw (sym (c .before .before .before .before .is-pair-sound .ensures) ∙ c .before .before .before .if1 .taken, sym (c .before .is-ring-sound .ensures) ∙ c .if2 .left)
 
 returns-3 : tie.Need-returns-3
 unfolding proper

@@ -3,7 +3,7 @@ use mathlib.Core.Path.{_≡_, sym, _∙_}
 use native.Mathlib.Omega.{arith}
 use lib.ListN.{length}
 use borrow.Author.Needs.{needs}
-use Rattle.tracker.proofs.Cutting.{front-long}
+use Rattle.marks.proofs.Cutting.{front-long}
 use Rattle.tracker.proofs.inner.sound.is_rest_sound.Statement.{statement}
 use Rattle.tracker.proofs.inner.sound.is_rest_sound.Tie as tie
 

@@ -1,0 +1,9 @@
+pub mod Banding
+pub mod Bounds
+pub mod Cutting
+pub mod Ordered
+pub mod Places
+pub mod Shifting
+pub mod Sorting
+pub mod Summing
+pub mod Testing

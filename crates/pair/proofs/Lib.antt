@@ -1,0 +1,4 @@
+pub mod Locking
+pub mod Reading
+pub mod Soundness
+pub mod Starting

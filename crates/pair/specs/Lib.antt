@@ -1,0 +1,4 @@
+pub mod Lock
+pub mod Model
+pub mod Readings
+pub mod Sound
