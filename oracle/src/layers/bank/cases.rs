@@ -548,7 +548,7 @@ pub fn random(random: &mut Random) -> Vec<Call> {
 }
 
 pub fn fixed() -> Vec<Vec<Call>> {
-    Vec::new()
+    vec![crate::replay::bank::script()]
 }
 
 #[cfg(test)]

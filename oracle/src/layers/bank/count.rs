@@ -176,7 +176,7 @@ pub fn count(before: &Bank, after: &Bank, primary: &Plain, call: &Call, answer: 
     match call {
         Call::New(width, _) => return fresh(*width),
         Call::Set(..) | Call::SetTracker(..) | Call::Hand(_) => return,
-        Call::Serial(_) | Call::Primary(_) => return,
+        Call::Serial(_) | Call::Primary(_) | Call::Show => return,
         _ => {}
     }
     match answer.code {

@@ -42,6 +42,8 @@ pub enum Call {
     /// A part of the tracker of the challenger at a place.
     SetTracker(u8, tracker::Part, u8, u32),
     Hand(Box<Bank>),
+    /// Nothing is called: a script shows both states.
+    Show,
 }
 
 fn floats(bits: &[u32]) -> Vec<f32> {
@@ -66,6 +68,7 @@ impl fmt::Debug for Call {
                 write!(f, "challenger {k}, {part:?} {i} set to {}", show(*v))
             }
             Call::Hand(b) => write!(f, "handed in: {b:?}"),
+            Call::Show => write!(f, "both states shown"),
         }
     }
 }
@@ -173,6 +176,7 @@ impl Both {
             }
             Call::Hand(b) => self.ours = **b,
             Call::Serial(n) => self.serial = *n,
+            Call::Show => return Ok(Answer::done(Told::Nothing)),
             Call::Primary(c) => {
                 let answer = self.primary.step(c)?;
                 return Ok(Answer {

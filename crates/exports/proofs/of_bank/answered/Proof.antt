@@ -1,27 +1,20 @@
+-- `exports::of_bank::answered` meets its contract. Assumes nothing.
+use mathlib.Core.Path.{_≡_, refl, ap, sym, _∙_}
 use borrow.Author.Needs.{needs}
 use Rattle.exports.proofs.of_bank.answered.Statement.{statement}
 use Rattle.exports.proofs.of_bank.answered.Tie as tie
-use Rattle.exports.proofs.of_bank.answered.Reads as reads
-use Rattle.exports.proofs.of_bank.answered.Lts as lts
-use Rattle.exports.proofs.of_bank.handed.Reads as handed-reads
-use Rattle.exports.proofs.of_tracker.told_code.Reads as told-code-reads
-use Rattle.plain.proofs.to.plain_departures.Reads as plain-departures-reads
 
--- src/of_bank.rt:104:9
 told-code-requires : tie.Need-told-code-requires
 told-code-requires c κs = search needs
 
--- src/of_bank.rt:105:9
 handed-requires : tie.Need-handed-requires
 handed-requires c κs = search needs
 
--- src/of_bank.rt:106:9
 plain-departures-requires : tie.Need-plain-departures-requires
 plain-departures-requires c κs = search needs
 
--- src/of_bank.rt:97:1
 returns : tie.Need-returns
-returns c = ?
+returns c = rw (c .before .handed .ensures, c .before .before .told-code .ensures, c .plain-departures .ensures)
 
 pub answered-spec : {M : Type 1} → statement M
 answered-spec =

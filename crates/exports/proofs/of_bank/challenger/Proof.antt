@@ -1,46 +1,40 @@
+-- `exports::of_bank::challenger` meets its contract. Assumes nothing.
+use mathlib.Core.Path.{_≡_, refl, ap, sym, _∙_}
+use mathlib.Core.Bool.{true}
+use Rattle.bank.specs.declared.Place.{Place}
+use Rattle.bank.specs.Answers.{placed}
+use Rattle.exports.specs.Bank.{challenged}
+use Rattle.exports.proofs.Rivals.{a-challenger}
 use borrow.Author.Needs.{needs}
 use Rattle.exports.proofs.of_bank.challenger.Statement.{statement}
 use Rattle.exports.proofs.of_bank.challenger.Tie as tie
-use Rattle.exports.proofs.of_bank.challenger.Reads as reads
-use Rattle.exports.proofs.of_bank.challenger.Lts as lts
-use Rattle.exports.proofs.of_bank.no_challenger.Reads as no-challenger-reads
-use Rattle.plain.proofs.to.plain_hypothesis.Reads as plain-hypothesis-reads
 
--- src/of_bank.rt:187:17
 enum-told : tie.Need-enum-told
 enum-told c = search needs
 
--- src/of_bank.rt:191:29
 plain-hypothesis-requires : tie.Need-plain-hypothesis-requires
 plain-hypothesis-requires c κs = search needs
 
--- src/of_bank.rt:194:26
 enum-told-2 : tie.Need-enum-told-2
 enum-told-2 c = search needs
 
--- src/of_bank.rt:194:26
 no-challenger-requires : tie.Need-no-challenger-requires
 no-challenger-requires c κs = search needs
 
--- src/of_bank.rt:195:24
 enum-known-p : tie.Need-enum-known-p
 enum-known-p c = search needs
 
--- src/of_bank.rt:195:30
 no-challenger-requires-2 : tie.Need-no-challenger-requires-2
 no-challenger-requires-2 c κs = search needs
 
--- src/of_bank.rt:181:1
 returns : tie.Need-returns
-returns c = ?
+returns c = ap (a-challenger 0 true) (c .plain-hypothesis .ensures) ∙ sym (ap (λ (x : Place). challenged (placed x (c .before .before .before .before .args .c .hypothesis))) (c .before .before .enum-told .given .1))
 
--- src/of_bank.rt:181:1
 returns-2 : tie.Need-returns-2
-returns-2 c = ?
+returns-2 c = c .no-challenger .ensures ∙ sym (ap (λ (x : Place). challenged (placed x (c .before .before .before .args .c .hypothesis))) (c .before .enum-told2 .given .1))
 
--- src/of_bank.rt:181:1
 returns-3 : tie.Need-returns-3
-returns-3 c = ?
+returns-3 c = c .no-challenger2 .ensures ∙ sym (ap (λ (x : Place). challenged (placed x (c .before .before .before .before .args .c .hypothesis))) (c .before .before .p .given .1))
 
 pub challenger-spec : {M : Type 1} → statement M
 challenger-spec =

@@ -1,21 +1,18 @@
+-- `exports::of_bank::handed` meets its contract. Assumes nothing.
+use mathlib.Core.Path.{_≡_, refl, ap, sym, _∙_}
+use Rattle.exports.proofs.Rivals.{done-with, refused-with}
 use borrow.Author.Needs.{needs}
 use Rattle.exports.proofs.of_bank.handed.Statement.{statement}
 use Rattle.exports.proofs.of_bank.handed.Tie as tie
-use Rattle.exports.proofs.of_bank.handed.Reads as reads
-use Rattle.exports.proofs.of_bank.handed.Lts as lts
-use Rattle.plain.proofs.to.plain_bank.Reads as plain-bank-reads
 
--- src/of_bank.rt:91:9
 plain-bank-requires : tie.Need-plain-bank-requires
 plain-bank-requires c κs = search needs
 
--- src/of_bank.rt:91:9
 returns : tie.Need-returns
-returns c = ?
+returns c = c .plain-bank .ensures ∙ sym (done-with (c .before .before .args .b) (c .before .before .args .d) (c .before .if1 .taken))
 
--- src/of_bank.rt:87:1
 returns-2 : tie.Need-returns-2
-returns-2 c = ?
+returns-2 c = sym (refused-with (c .before .args .b) (c .before .args .d) (c .if1 .left))
 
 pub handed-spec : {M : Type 1} → statement M
 handed-spec = tie.close (tie.spec plain-bank-requires returns returns-2)

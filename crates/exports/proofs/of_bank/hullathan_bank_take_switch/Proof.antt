@@ -1,31 +1,36 @@
+-- `exports::of_bank::hullathan_bank_take_switch` hands on what the call says. Assumes nothing.
+use mathlib.Core.Path.{_≡_, refl, ap, sym, _∙_}
+use Rattle.ranges.specs.Settings.{standard}
+use Rattle.tracker.specs.Model as Tracked
+use Rattle.bank_model.specs.Steps as Steps
+use Rattle.bank.specs.declared.TimingBank.{TimingBank}
+use Rattle.bank.specs.View.{view}
+use Rattle.bank.specs.Answers.{switchRefusal}
+use Rattle.exports.proofs.Rivals.{switched-by, switches-not}
 use borrow.Author.Needs.{needs}
 use Rattle.exports.proofs.of_bank.hullathan_bank_take_switch.Statement.{statement}
 use Rattle.exports.proofs.of_bank.hullathan_bank_take_switch.Tie as tie
-use Rattle.exports.proofs.of_bank.hullathan_bank_take_switch.Reads as reads
-use Rattle.exports.proofs.of_bank.hullathan_bank_take_switch.Lts as lts
-use Rattle.bank.proofs.TimingBank.take_switch.Reads as take-switch-reads
-use Rattle.exports.proofs.of_bank.switched.Reads as switched-reads
-use Rattle.plain.proofs.from.bank_of.Reads as bank-of-reads
 
--- src/of_bank.rt:398:9
 bank-of-requires : tie.Need-bank-of-requires
 bank-of-requires c κs = search needs
 
--- src/of_bank.rt:401:28
 take-switch-requires : tie.Need-take-switch-requires
 take-switch-requires c κs = search needs
 
--- src/of_bank.rt:401:9
 switched-requires : tie.Need-switched-requires
 switched-requires c κs = search needs
 
--- src/of_bank.rt:401:9
 returns : tie.Need-returns
-returns c = ?
+returns c =
+    let a = c .before .before .before .before .before .args in
+    let u = c .before .before .before .before .bank-of in
+    switched-by (a .b) _ (u .ensures .1) (sym (u .ensures .0) ∙ c .before .before .before .if1 .taken) (λ (z : TimingBank). switchRefusal standard z (a .primary)) (a .primary) (a .serial) (λ (z : TimingBank). Steps.takeSwitch (view z) (Tracked.view (a .primary)) (a .serial)) _ _ (c .before .take-switch .ensures) (c .switched .ensures)
 
--- src/of_bank.rt:390:1
 returns-2 : tie.Need-returns-2
-returns-2 c = ?
+returns-2 c =
+    let a = c .before .before .args in
+    let u = c .before .bank-of in
+    switches-not (a .b) (sym (u .ensures .0) ∙ c .if1 .left) _ _ _ _
 
 pub hullathan-bank-take-switch-spec : {M : Type 1} → statement M
 hullathan-bank-take-switch-spec =

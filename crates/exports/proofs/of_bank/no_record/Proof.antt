@@ -1,11 +1,12 @@
+-- `exports::of_bank::no_record` meets its contract. Assumes nothing.
+use mathlib.Core.Path.{_≡_, refl, ap, sym, _∙_}
+use lib.Ieee.{ofBits}
 use Rattle.exports.proofs.of_bank.no_record.Statement.{statement}
 use Rattle.exports.proofs.of_bank.no_record.Tie as tie
-use Rattle.exports.proofs.of_bank.no_record.Reads as reads
-use Rattle.exports.proofs.of_bank.no_record.Lts as lts
 
--- src/of_bank.rt:200:1
 returns : tie.Need-returns
-returns c = ?
+unfolding ofBits
+returns c = refl
 
 pub no-record-spec : {M : Type 1} → statement M
 no-record-spec = tie.close (tie.spec returns)
