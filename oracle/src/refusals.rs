@@ -228,13 +228,19 @@ mod tests {
         assert_eq!(with(|b| b.challengers[0].origin = 3), Err(1));
         assert_eq!(with(|b| b.challengers[1].origin = 3), Ok(()));
         assert_eq!(with(|b| b.challengers[0].ln_hi = 5.0), Err(1));
-        assert_eq!(with(|b| b.challengers[0].tracker.pair.ready = false), Err(1));
+        assert_eq!(
+            with(|b| b.challengers[0].tracker.pair.ready = false),
+            Err(1)
+        );
         assert_eq!(with(|b| b.challengers[0].score = -30.0), Ok(()));
         assert_eq!(with(|b| b.primary_gap_score = f32::from_bits(1)), Err(1));
         assert_eq!(with(|b| (b.has_pending, b.pending) = (true, 1)), Err(1));
         assert_eq!(with(|b| b.streak_gaps_len = 1), Err(1));
         assert_eq!(with(|b| b.log_len = 1), Err(1));
         let counted = |n| counts(&Bank { gaps_seen: n, ..b });
-        assert_eq!((counted(4_294_967_294), counted(4_294_967_295)), (Ok(()), Err(2)));
+        assert_eq!(
+            (counted(4_294_967_294), counted(4_294_967_295)),
+            (Ok(()), Err(2))
+        );
     }
 }

@@ -262,10 +262,7 @@ mod tests {
             ),
             (360, 364, 376)
         );
-        assert_eq!(
-            (size_of::<Record>(), offset_of!(Record, applied)),
-            (24, 16)
-        );
+        assert_eq!((size_of::<Record>(), offset_of!(Record, applied)), (24, 16));
         assert_eq!(
             (
                 offset_of!(Bank, challengers),

@@ -121,7 +121,12 @@ fn whole(b: &Bank) -> String {
     s += &count(b.streak_len);
     s.extend(b.streak.iter().take(b.streak_len).map(|&m| number(m)));
     s += &count(b.streak_gaps_len);
-    s.extend(b.streak_gaps.iter().take(b.streak_gaps_len).map(|&g| number(g)));
+    s.extend(
+        b.streak_gaps
+            .iter()
+            .take(b.streak_gaps_len)
+            .map(|&g| number(g)),
+    );
     s += &flag(b.has_side);
     if b.has_side {
         s += &flag(b.streak_side);
@@ -159,7 +164,8 @@ fn answer(both: &mut Both, call: &Call) -> String {
             let counts = r.counts.map(|(c, n)| code(c) + &long(n)).concat();
             let there = r.challenger.1.as_ref().map(hypothesis);
             let entry = r.record.1.as_ref().map(record);
-            let each = |c: u8, x: Option<String>| code(c) + &flag(x.is_some()) + &x.unwrap_or_default();
+            let each =
+                |c: u8, x: Option<String>| code(c) + &flag(x.is_some()) + &x.unwrap_or_default();
             let places = each(r.challenger.0, there) + &each(r.record.0, entry);
             format!("V{counts}{places}\n")
         }

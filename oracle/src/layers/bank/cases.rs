@@ -259,12 +259,20 @@ fn streak(random: &mut Random, b: &mut Bank) {
     let unit = random.scale(20.0, 450.0) as f32;
     for i in 0..4 {
         let near = 0.9 + 0.2 * random.fraction() as f32;
-        b.streak[i] = if i < b.streak_len { unit * near } else { f32::NAN };
+        b.streak[i] = if i < b.streak_len {
+            unit * near
+        } else {
+            f32::NAN
+        };
         let gap = good(random);
         b.streak_gaps[i] = if i < b.streak_gaps_len { gap } else { -1.0 };
     }
     b.has_last_gap = random.below(2) == 0;
-    b.last_gap = if b.has_last_gap { good(random) } else { f32::NAN };
+    b.last_gap = if b.has_last_gap {
+        good(random)
+    } else {
+        f32::NAN
+    };
 }
 
 /// Any sound bank; what is no part of it is junk.
@@ -379,7 +387,12 @@ fn after(s: f32) -> f32 {
 fn exactly(primary: f32, lead: f32) -> f32 {
     let near = ((after(primary) + lead + 3.0) / 0.9).clamp(-30.0, 0.0);
     let found = (0..200u32)
-        .flat_map(|i| [near.to_bits().wrapping_add(i), near.to_bits().wrapping_sub(i)])
+        .flat_map(|i| {
+            [
+                near.to_bits().wrapping_add(i),
+                near.to_bits().wrapping_sub(i),
+            ]
+        })
         .map(f32::from_bits)
         .find(|&s| after(s) - after(primary) == lead);
     found.unwrap_or(near)
@@ -404,7 +417,13 @@ fn contested(random: &mut Random) -> Vec<Call> {
     for i in 0..8 {
         let h = &mut b.challengers[i];
         (h.origin, h.age_marks, h.lead_marks) = (1, random.pick(&[0, 1, 7, 8, 20]), 1);
-        h.score = random.pick(&[equal, equal, equal, f32::from_bits(equal.to_bits() + 1), -20.0]);
+        h.score = random.pick(&[
+            equal,
+            equal,
+            equal,
+            f32::from_bits(equal.to_bits() + 1),
+            -20.0,
+        ]);
         h.gap_score = random.pick(&[-1.0, -1.0, -9.0, -3.0]);
         let lo = 21.0 * 1.3f32.powi(i as i32);
         h.tracker.pair.lo = lo.min(150.0);
@@ -502,7 +521,11 @@ fn limit(random: &mut Random, b: &mut Bank) {
         13 => {
             let part = random.pick(&[Part::OfLnLo, Part::OfLnHi]);
             let h = &b.challengers[usize::from(i % 2)];
-            let old = if part == Part::OfLnLo { h.ln_lo } else { h.ln_hi };
+            let old = if part == Part::OfLnLo {
+                h.ln_lo
+            } else {
+                h.ln_hi
+            };
             let v = random.pick(&[old.to_bits() + 1, old.to_bits() - 1, NAN, INFINITY, MINUS]);
             super::parts::set(b, part, i % 2, v);
         }

@@ -540,7 +540,12 @@ fn unsound(b: &Bank, primary: &Plain, call: &Call) {
     STREAK_5.when(b.streak_len == 5);
     GAPS_5.when(b.streak_gaps_len == 5);
     LOG_17.when(b.log_len == 17);
-    let counts = [b.challengers_len, b.streak_len, b.streak_gaps_len, b.log_len];
+    let counts = [
+        b.challengers_len,
+        b.streak_len,
+        b.streak_gaps_len,
+        b.log_len,
+    ];
     COUNT_LARGE.when(counts.contains(&(u32::MAX as usize)));
     MORE_GAPS.when(b.streak_gaps_len == b.streak_len + 1);
     PENDING_AT.when(b.has_pending && b.pending == b.challengers_len);
@@ -577,13 +582,26 @@ fn rival(h: &Hypothesis) {
 fn sound(b: &Bank) {
     WIDTH_BELOW.when(b.width == 8 && b.challengers_len == 7);
     STREAK_4.when(b.streak_len == 4);
-    RIVAL_BEYOND.when(b.challengers[b.challengers_len..].iter().any(|h| h.origin > 2));
+    RIVAL_BEYOND.when(
+        b.challengers[b.challengers_len..]
+            .iter()
+            .any(|h| h.origin > 2),
+    );
     PENDING_ABSENT.when(!b.has_pending && b.pending >= 8);
-    let scores: Vec<f32> = held(b).iter().flat_map(|h| [h.score, h.gap_score]).collect();
+    let scores: Vec<f32> = held(b)
+        .iter()
+        .flat_map(|h| [h.score, h.gap_score])
+        .collect();
     let has = |x: f32| scores.iter().any(|s| s.to_bits() == x.to_bits());
     SCORE_LIMITS.when(has(-30.0) && has(0.0) && has(-0.0));
     let limit = |d: f32| d == 1.0 / 64.0 || d == 262_144.0;
-    let dits = b.log[..b.log_len].iter().flat_map(|r| [r.from_dit_ms, r.to_dit_ms]);
+    let dits = b.log[..b.log_len]
+        .iter()
+        .flat_map(|r| [r.from_dit_ms, r.to_dit_ms]);
     HELD_LIMITS.when(b.has_last_gap && limit(b.last_gap) || dits.into_iter().any(limit));
-    ABSENT.when(!b.has_last_gap && b.last_gap.is_nan() && b.streak[b.streak_len..].iter().any(|m| m.is_nan()));
+    ABSENT.when(
+        !b.has_last_gap
+            && b.last_gap.is_nan()
+            && b.streak[b.streak_len..].iter().any(|m| m.is_nan()),
+    );
 }

@@ -54,10 +54,7 @@ fn replaced(before: &Bank, after: &TimingBank) -> Vec<Departure> {
 
 /// "twin or else outscored (12 or more behind) or else aged (64 marks) at `prune`", of one that the Rust dropped.
 fn why(h: &TimingHypothesis, primary: &SpeedTracker, primary_score: f32) -> u8 {
-    let ours = (
-        h.tracker.mu_dit_ms().ln01(),
-        h.tracker.mu_dah_ms().ln01(),
-    );
+    let ours = (h.tracker.mu_dit_ms().ln01(), h.tracker.mu_dah_ms().ln01());
     if duplicates(ours, ln_centroids(primary)) {
         TWIN
     } else if primary_score - h.score >= 12.0 {
@@ -69,12 +66,7 @@ fn why(h: &TimingHypothesis, primary: &SpeedTracker, primary_score: f32) -> u8 {
 }
 
 /// The bank as the Rust has it before it prunes at this mark.
-pub fn before_prune(
-    before: &Bank,
-    primary: &SpeedTracker,
-    dur_ms: f32,
-    live: bool,
-) -> TimingBank {
+pub fn before_prune(before: &Bank, primary: &SpeedTracker, dur_ms: f32, live: bool) -> TimingBank {
     let mut held = manta(before);
     held.held = true;
     held.on_mark(primary, dur_ms, live);
@@ -95,7 +87,10 @@ pub fn left_at_mark(
     }
     let held = before_prune(before, primary, dur_ms, live);
     let mut left = replaced(before, &held);
-    let dropped = held.challengers.iter().filter(|h| !stayed.contains(&h.name));
+    let dropped = held
+        .challengers
+        .iter()
+        .filter(|h| !stayed.contains(&h.name));
     left.extend(dropped.map(|h| gone(before, h, why(h, primary, held.primary_score))));
     left
 }
@@ -109,6 +104,9 @@ pub fn left_at_ready(before: &Bank, after: &TimingBank) -> Vec<Departure> {
 pub fn left_at_clear(before: &Bank, after: &TimingBank) -> Vec<Departure> {
     let stayed = names(after);
     let first = manta(before);
-    let dropped = first.challengers.iter().filter(|h| !stayed.contains(&h.name));
+    let dropped = first
+        .challengers
+        .iter()
+        .filter(|h| !stayed.contains(&h.name));
     dropped.map(|h| gone(before, h, CLEARED)).collect()
 }

@@ -120,7 +120,10 @@ struct Back {
 /// The refusals of a call, in order.
 fn refusal(b: &Bank, primary: &Plain, call: &Call) -> Result<(), u8> {
     refusals::bank(b)?;
-    if matches!(call, Call::Mark(..) | Call::Gap(_) | Call::Ready(_) | Call::Switch) {
+    if matches!(
+        call,
+        Call::Mark(..) | Call::Gap(_) | Call::Ready(_) | Call::Switch
+    ) {
         refusals::tracker(primary)?;
     }
     if matches!(call, Call::Switch) && b.has_pending && !primary.pair.ready {
@@ -195,7 +198,9 @@ impl Both {
     /// The Rust's bank of what was handed in.
     fn settle(&mut self) {
         if self.stale {
-            self.rust = refusals::bank(&self.ours).is_ok().then(|| state::manta(&self.ours));
+            self.rust = refusals::bank(&self.ours)
+                .is_ok()
+                .then(|| state::manta(&self.ours));
             self.stale = false;
         }
     }
@@ -227,14 +232,22 @@ impl Both {
         let (challenger, record) = (ours::challenger(b, i), ours::switch_record(b, i));
         let readings = Readings {
             counts: tallies.map(|t| (t.code, t.value)),
-            challenger: (challenger.code, challenger.has.then_some(challenger.challenger)),
+            challenger: (
+                challenger.code,
+                challenger.has.then_some(challenger.challenger),
+            ),
             record: (record.code, record.has.then_some(record.record)),
         };
         let counts = match &self.rust {
             Some(m) if code == 0 => [m.hypotheses() as u64, m.marks_seen(), m.gaps_seen()],
             _ => [0; 3],
         };
-        agree(call, "the counts", readings.counts, counts.map(|n| (code, n)))?;
+        agree(
+            call,
+            "the counts",
+            readings.counts,
+            counts.map(|n| (code, n)),
+        )?;
         agree(call, "the challenger's code", challenger.code, code)?;
         agree(call, "the record's code", record.code, code)?;
         let rust = self.rust.as_ref().filter(|_| code == 0);
@@ -264,8 +277,7 @@ impl Both {
             primary,
             serial,
         };
-        let answered =
-            |r: ours::Answered| back(r.code, r.bank, departures(&r.left, r.left_len));
+        let answered = |r: ours::Answered| back(r.code, r.bank, departures(&r.left, r.left_len));
         match call {
             Call::Mark(d, live) => answered(ours::on_mark(b, primary, f32::from_bits(*d), *live)),
             Call::Ready(marks) => answered(ours::on_ready(b, primary, &floats(marks))),
@@ -290,7 +302,9 @@ impl Both {
         self.settle();
         let before = self.ours;
         let back = self.library(call);
-        let code = refusal(&before, &self.primary.ours, call).err().unwrap_or(0);
+        let code = refusal(&before, &self.primary.ours, call)
+            .err()
+            .unwrap_or(0);
         agree(call, "the code", back.code, code)?;
         if code != 0 {
             return self.refused(call, back);
@@ -298,7 +312,12 @@ impl Both {
         let expected = self.act(&before, call);
         agree(call, "the answer", back.yes, expected.yes)?;
         // "Only the order of departures within one answer is free"
-        agree(call, "those that left", sorted(&back.left), sorted(&expected.left))?;
+        agree(
+            call,
+            "those that left",
+            sorted(&back.left),
+            sorted(&expected.left),
+        )?;
         agree(call, "the primary's serial", back.serial, expected.serial)?;
         (self.ours, self.serial) = (back.bank, back.serial);
         agree(call, "started", self.ours.started, expected.started)?;
@@ -335,7 +354,6 @@ impl Both {
     /// The Rust's answer to a call that is not refused, and what is followed beside it.
     fn act(&mut self, before: &Bank, call: &Call) -> Expected {
         let bank = self.rust.as_mut().expect("a sound bank");
-        let primary = self.primary.sound_mut();
         let mut e = Expected {
             yes: false,
             left: Vec::new(),
@@ -345,22 +363,20 @@ impl Both {
         };
         match call {
             Call::Mark(d, live) => {
-                let d = f32::from_bits(*d);
+                let (primary, d) = (self.primary.sound_mut(), f32::from_bits(*d));
                 bank.on_mark(primary, d, *live);
                 e.left = follow::left_at_mark(before, bank, primary, d, *live);
             }
-            Call::Gap(d) => bank.on_gap(primary, f32::from_bits(*d)),
+            Call::Gap(d) => bank.on_gap(self.primary.sound_mut(), f32::from_bits(*d)),
             Call::Ready(marks) => {
-                bank.on_ready(primary, &floats(marks));
+                bank.on_ready(self.primary.sound_mut(), &floats(marks));
                 e.left = follow::left_at_ready(before, bank);
             }
             Call::Clear => {
                 bank.clear();
                 e.left = follow::left_at_clear(before, bank);
             }
-            _ => {
-                e.yes = bank.take_switch(primary);
-            }
+            _ => e.yes = bank.take_switch(self.primary.sound_mut()),
         }
         (e.serials, e.started) = follow::serials(before, bank);
         follow::number(bank);

@@ -187,10 +187,12 @@ fn hypothesis_parts(i: usize, h: &Hypothesis) -> Vec<Call> {
     put(Part::OfLnLo, bits(h.ln_lo));
     put(Part::OfLnHi, bits(h.ln_hi));
     put(Part::OfSerial, h.serial as u32);
-    let of_tracker = tracker::parts(&h.tracker).into_iter().filter_map(|c| match c {
-        tracker::Call::Set(part, j, v) => Some(Call::SetTracker(i as u8, part, j, v)),
-        _ => None,
-    });
+    let of_tracker = tracker::parts(&h.tracker)
+        .into_iter()
+        .filter_map(|c| match c {
+            tracker::Call::Set(part, j, v) => Some(Call::SetTracker(i as u8, part, j, v)),
+            _ => None,
+        });
     all.extend(of_tracker);
     all
 }

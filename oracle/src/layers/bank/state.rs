@@ -94,7 +94,10 @@ pub fn same(b: &Bank, m: &TimingBank) -> bool {
         && same_float(b.primary_score, m.primary_score)
         && same_float(b.primary_gap_score, m.primary_gap_score)
         && b.challengers_len == m.challengers.len()
-        && b.challengers.iter().zip(&m.challengers).all(same_hypothesis)
+        && b.challengers
+            .iter()
+            .zip(&m.challengers)
+            .all(same_hypothesis)
         && same_floats(&b.streak[..b.streak_len], m.streak.iter())
         && same_floats(&b.streak_gaps[..b.streak_gaps_len], m.streak_gaps.iter())
         && b.has_side.then_some(b.streak_side) == m.streak_side
@@ -126,7 +129,10 @@ pub fn identical(a: &Bank, b: &Bank) -> bool {
     (a.width, a.switching, a.started) == (b.width, b.switching, b.started)
         && same_float(a.primary_score, b.primary_score)
         && same_float(a.primary_gap_score, b.primary_gap_score)
-        && a.challengers.iter().zip(&b.challengers).all(identical_hypothesis)
+        && a.challengers
+            .iter()
+            .zip(&b.challengers)
+            .all(identical_hypothesis)
         && (a.challengers_len, a.streak_len) == (b.challengers_len, b.streak_len)
         && same_floats(&a.streak, b.streak.iter())
         && same_floats(&a.streak_gaps, b.streak_gaps.iter())
