@@ -44,6 +44,13 @@ pub const SUBSTITUTIONS: &[Substitution] = &[
     change(Timing, 2, Replace(", serde::Serialize, serde::Deserialize", "")),
     change(Timing, 2, Replace("#[serde(rename_all = \"camelCase\")]\n", "")),
     change(Bank, 0, Replace("serde", "serde")),
+    // A name for each hypothesis, so that it can be followed; the Rust neither reads nor writes it. One that is made has none.
+    change(Bank, 1, Replace("    ln_lo: f32,\n    ln_hi: f32,\n}", "    ln_lo: f32,\n    ln_hi: f32,\n    pub(crate) name: Option<usize>,\n}")),
+    change(Bank, 1, Replace("            ln_lo,\n            ln_hi,\n        }", "            ln_lo,\n            ln_hi,\n            name: None,\n        }")),
+    // A bank that is held before it prunes, so that who came can be told from who left; it is never held where it is compared.
+    change(Bank, 1, Replace("    log: VecDeque<SwitchRecord>,\n}", "    log: VecDeque<SwitchRecord>,\n    pub(crate) held: bool,\n}")),
+    change(Bank, 1, Replace("            log: VecDeque::new(),\n        }", "            log: VecDeque::new(),\n            held: false,\n        }")),
+    change(Bank, 1, Replace("    fn prune(&mut self, primary: &SpeedTracker) {\n", "    fn prune(&mut self, primary: &SpeedTracker) {\n        if self.held {\n            return;\n        }\n")),
     // Opened: the module, ClusterPair and its fields.
     change(Timing, 1, Open("mod bank;")),
     change(Timing, 1, Open("struct ClusterPair {")),
@@ -98,4 +105,6 @@ pub const SUBSTITUTIONS: &[Substitution] = &[
     // How a rival is made from marks, and the other reading of an unconfirmed lock.
     change(Bank, 1, Open("fn from_marks(")),
     change(Bank, 1, Open("fn three_to_one_alternative(")),
+    change(Bank, 1, Open("fn ln_centroids(")),
+    change(Bank, 1, Open("fn duplicates(")),
 ];

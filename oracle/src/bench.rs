@@ -15,15 +15,19 @@ const RUNS: usize = 25;
 type Loop<'a> = Box<dyn FnMut() + 'a>;
 
 /// Nanoseconds for one call in each loop: the median of the runs. The loops run by turns, so that a busy machine slows all alike.
-fn medians(mut loops: Vec<Loop>) -> Vec<f64> {
+fn medians(loops: Vec<Loop>) -> Vec<f64> {
+    medians_of(loops, ROUNDS)
+}
+
+fn medians_of(mut loops: Vec<Loop>, rounds: usize) -> Vec<f64> {
     let mut times = vec![Vec::new(); loops.len()];
     for _ in 0..RUNS {
         for (run, t) in loops.iter_mut().zip(&mut times) {
             let start = Instant::now();
-            for _ in 0..ROUNDS {
+            for _ in 0..rounds {
                 run();
             }
-            t.push(start.elapsed().as_nanos() as f64 / (ROUNDS * INPUTS) as f64);
+            t.push(start.elapsed().as_nanos() as f64 / (rounds * INPUTS) as f64);
         }
     }
     for t in &mut times {
@@ -256,5 +260,146 @@ pub fn tracker() {
     ];
     for (name, t) in names.iter().zip(&times) {
         println!("| {name} | {t:.1} | {:.2} |", t / times[0]);
+    }
+}
+
+/// What the bank is measured on: marks and gaps of keyed text whose speed changes threefold now and then, and the primary after
+/// each mark, on both sides. The bank only notes its switches, so that the primaries stay as they are.
+#[cfg(manta)]
+struct Heard {
+    marks: Vec<f32>,
+    gaps: Vec<f32>,
+    ours: Vec<crate::hullathan::tracker::SpeedTracker>,
+    rust: Vec<crate::manta::timing::SpeedTracker>,
+}
+
+#[cfg(manta)]
+fn heard() -> Heard {
+    use crate::hullathan::tracker as ours;
+    let mut random = Random::new(7);
+    let mut h = Heard {
+        marks: text(),
+        gaps: Vec::new(),
+        ours: Vec::new(),
+        rust: Vec::new(),
+    };
+    let (mut t, mut m) = (ours::new(), crate::manta::timing::SpeedTracker::new());
+    for (i, mark) in h.marks.iter_mut().enumerate() {
+        let scale = [1.0, 0.4, 1.0, 2.2][i / 97 % 4];
+        *mark *= scale;
+        let units = [1.0, 1.0, 1.0, 3.0, 7.0][random.below(5) as usize];
+        h.gaps.push(60.0 * scale * units);
+        t = ours::on_mark(t, *mark).tracker;
+        m.on_mark(*mark);
+        h.ours.push(t);
+        h.rust.push(m.clone());
+    }
+    h
+}
+
+/// One sequence of calls on a bank of a width, in the Rust, by the inner functions and by the public ones; and a bank passed as often.
+#[cfg(manta)]
+fn bank_loops(h: &Heard, width: usize, gaps: bool) -> Vec<Loop<'_>> {
+    use crate::hullathan::bank as ours;
+    use crate::manta::timing::{SpeedBankConfig, TimingBank};
+    let cfg = SpeedBankConfig {
+        width,
+        switching: false,
+    };
+    let rust = move || {
+        let mut b = TimingBank::new(cfg);
+        // a call may exchange the primary; here none does
+        let mut lent = h.rust[0].clone();
+        for (i, p) in h.rust.iter().enumerate() {
+            b.on_mark(p, black_box(h.marks[i]), true);
+            if gaps {
+                b.on_gap(p, black_box(h.gaps[i]));
+                b.take_switch(&mut lent);
+            }
+        }
+        black_box(&b);
+    };
+    let inner = move || {
+        let mut b = ours::new(width, false).bank;
+        for (i, &p) in h.ours.iter().enumerate() {
+            // Safety: bank and primary are what the library handed back, and the durations lie from 20 to 1,000
+            unsafe {
+                b = ours::inner_on_mark(b, p, black_box(h.marks[i]), true).bank;
+                if gaps {
+                    b = ours::inner_on_gap(b, p, black_box(h.gaps[i]));
+                    b = ours::inner_take_switch(b, p, 0).bank;
+                }
+            }
+        }
+        black_box(&b);
+    };
+    let public = move || {
+        let mut b = ours::new(width, false).bank;
+        for (i, &p) in h.ours.iter().enumerate() {
+            b = ours::on_mark(b, p, black_box(h.marks[i]), true).bank;
+            if gaps {
+                b = ours::on_gap(b, p, black_box(h.gaps[i])).bank;
+                b = ours::take_switch(b, p, 0).bank;
+            }
+        }
+        black_box(&b);
+    };
+    let passed = move || {
+        let mut b = ours::new(width, false).bank;
+        for _ in &h.ours {
+            for _ in 0..if gaps { 3 } else { 1 } {
+                b = ours::same(b);
+            }
+        }
+        black_box(&b);
+    };
+    vec![
+        Box::new(rust),
+        Box::new(inner),
+        Box::new(public),
+        Box::new(passed),
+    ]
+}
+
+/// How many challengers a bank of a width has on average.
+#[cfg(manta)]
+fn company(h: &Heard, width: usize) -> f64 {
+    use crate::hullathan::bank as ours;
+    let mut b = ours::new(width, false).bank;
+    let mut sum = 0;
+    for (i, &p) in h.ours.iter().enumerate() {
+        b = ours::on_mark(b, p, h.marks[i], true).bank;
+        b = ours::on_gap(b, p, h.gaps[i]).bank;
+        sum += b.challengers_len;
+    }
+    sum as f64 / h.ours.len() as f64
+}
+
+/// Tables in markdown: the calls of a bank of width 2 and of one of width 8.
+#[cfg(manta)]
+pub fn bank() {
+    let h = heard();
+    let names = [
+        "manta's",
+        "the inner functions, over C",
+        "the public calls, over C",
+        "a bank passed to C and back",
+    ];
+    for (what, gaps) in [
+        ("one mark", false),
+        ("one mark, one gap and one switch call", true),
+    ] {
+        println!("| {what} | width | challengers | ns | over the Rust |\n|---|---|---|---|---|");
+        for width in [2, 8] {
+            let times = medians_of(bank_loops(&h, width, gaps), 1);
+            let there = company(&h, width);
+            for (name, t) in names.iter().zip(&times) {
+                println!(
+                    "| {name} | {width} | {there:.1} | {t:.0} | {:.2} |",
+                    t / times[0]
+                );
+            }
+        }
+        println!();
     }
 }

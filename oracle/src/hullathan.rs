@@ -1,6 +1,8 @@
 //! The proved library, as `rt staticlib exports` writes it. Each function takes plain numbers, answers 0 or the number of a
 //! refusal, and leaves its result behind the reference; after a refusal what stood there is untouched.
 
+pub mod bank;
+
 pub mod numbers {
     mod c {
         extern "C" {

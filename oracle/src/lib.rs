@@ -4,6 +4,7 @@ pub mod bench;
 pub mod compare;
 pub mod exhaustive;
 pub mod hullathan;
+pub mod keying;
 pub mod layers;
 pub mod log01;
 #[cfg(manta)]

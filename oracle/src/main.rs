@@ -13,6 +13,7 @@ oracle compare LAYER [--seed S] [--seconds T | --count N]
 oracle exhaustive [--threads N]    the f32 root and the logarithm over all 2^32 patterns (2 threads; minutes)
 oracle bench numbers               nanoseconds for each call, beside Rust's own
 oracle bench tracker               nanoseconds for one mark, beside manta's
+oracle bench bank                  the same of a bank
 oracle replay LAYER DIR            the list of calls for `sender_replay` or `tracker_replay`: DIR/stdin, and DIR/stdout, what it must print
 ";
 
@@ -103,12 +104,16 @@ fn command(words: &[String]) -> Result<bool, String> {
             Ok(true)
         }
         #[cfg(manta)]
-        ("bench", Some((name, []))) if name == "tracker" => {
-            bench::tracker();
+        ("bench", Some((name, []))) if name == "tracker" || name == "bank" => {
+            if name == "bank" {
+                bench::bank();
+            } else {
+                bench::tracker();
+            }
             Ok(true)
         }
         #[cfg(not(manta))]
-        ("bench", Some((name, []))) if name == "tracker" => {
+        ("bench", Some((name, []))) if name == "tracker" || name == "bank" => {
             println!("{NO_MANTA}");
             Ok(false)
         }

@@ -1,6 +1,8 @@
 //! The refusals of document 01, "Refusals in checking order", written from the paper: what the library must refuse, and by which number.
 
+use crate::hullathan::bank::{Bank, Hypothesis, Record};
 use crate::hullathan::tracker::SpeedTracker;
+use crate::log01;
 
 /// A number within limits; a NaN is outside every range.
 pub fn within(low: f32, high: f32, x: f32) -> bool {
@@ -102,6 +104,77 @@ pub fn tracker(t: &SpeedTracker) -> Result<(), u8> {
     }
 }
 
+/// Of refusal 1: "a score outside -30 to 0".
+fn score(x: f32) -> bool {
+    within(-30.0, 0.0, x)
+}
+
+/// Of refusal 1: "one unready, or one holding other logarithms than its centroids have"; and in its plain form an origin's number.
+fn hypothesis(h: &Hypothesis) -> bool {
+    let (lo, hi) = (h.tracker.pair.lo, h.tracker.pair.hi);
+    tracker(&h.tracker).is_ok()
+        && h.tracker.pair.ready
+        && log01::ln(lo) == Ok(h.ln_lo)
+        && log01::ln(hi) == Ok(h.ln_hi)
+        && score(h.score)
+        && score(h.gap_score)
+        && h.origin <= 2
+}
+
+/// Of refusal 1: the dits of a switch record are held durations.
+fn record(r: &Record) -> bool {
+    duration(r.from_dit_ms).is_ok() && duration(r.to_dit_ms).is_ok()
+}
+
+/// 1, of a bank.
+pub fn bank(b: &Bank) -> Result<(), u8> {
+    // "width 0 or above 8; challengers not below the width", and counts above their capacities
+    if b.width == 0
+        || b.width > 8
+        || b.challengers_len >= b.width
+        || b.streak_len > 4
+        || b.streak_gaps_len > 4
+        || b.log_len > 16
+    {
+        return Err(1);
+    }
+    let (streak, gaps) = (
+        &b.streak[..b.streak_len],
+        &b.streak_gaps[..b.streak_gaps_len],
+    );
+    let sound = b.challengers[..b.challengers_len].iter().all(hypothesis)
+        && (!b.has_pending || b.pending < b.challengers_len)
+        && gaps.len() <= streak.len()
+        && score(b.primary_score)
+        && score(b.primary_gap_score)
+        && streak.iter().chain(gaps).all(|&d| duration(d).is_ok())
+        && (!b.has_last_gap || duration(b.last_gap).is_ok())
+        && b.log[..b.log_len].iter().all(record);
+    if sound {
+        Ok(())
+    } else {
+        Err(1)
+    }
+}
+
+/// 2: "the bank has counted 4,294,967,295 or more marks or gaps".
+pub fn counts(b: &Bank) -> Result<(), u8> {
+    if b.marks_seen >= 4_294_967_295 || b.gaps_seen >= 4_294_967_295 {
+        Err(2)
+    } else {
+        Ok(())
+    }
+}
+
+/// 3: "A fresh bank or station is wanted with width above 8".
+pub fn width(n: usize) -> Result<(), u8> {
+    if n > 8 {
+        Err(3)
+    } else {
+        Ok(())
+    }
+}
+
 #[cfg(test)]
 mod tests {
     use super::*;
@@ -131,5 +204,43 @@ mod tests {
         assert_eq!(class(next(13_108.0), 0.0), Err(1));
         assert_eq!(class(1.0, -f32::from_bits(1)), Err(1));
         assert_eq!(class(1.0, f32::NAN), Err(1));
+    }
+
+    /// A bank that is sound but for one part, each at its limit.
+    #[test]
+    fn a_bank_at_its_limits() {
+        let mut b = Bank {
+            width: 2,
+            challengers_len: 1,
+            ..Bank::default()
+        };
+        let h = &mut b.challengers[0];
+        h.tracker.pair.ready = true;
+        (h.tracker.pair.lo, h.tracker.pair.hi) = (60.0, 180.0);
+        (h.ln_lo, h.ln_hi) = (log01::ln(60.0).unwrap(), log01::ln(180.0).unwrap());
+        assert_eq!(bank(&b), Ok(()));
+        let with = |f: fn(&mut Bank)| {
+            let mut c = b;
+            f(&mut c);
+            bank(&c)
+        };
+        assert_eq!(with(|b| b.width = 1), Err(1));
+        assert_eq!(with(|b| b.challengers[0].origin = 3), Err(1));
+        assert_eq!(with(|b| b.challengers[1].origin = 3), Ok(()));
+        assert_eq!(with(|b| b.challengers[0].ln_hi = 5.0), Err(1));
+        assert_eq!(
+            with(|b| b.challengers[0].tracker.pair.ready = false),
+            Err(1)
+        );
+        assert_eq!(with(|b| b.challengers[0].score = -30.0), Ok(()));
+        assert_eq!(with(|b| b.primary_gap_score = f32::from_bits(1)), Err(1));
+        assert_eq!(with(|b| (b.has_pending, b.pending) = (true, 1)), Err(1));
+        assert_eq!(with(|b| b.streak_gaps_len = 1), Err(1));
+        assert_eq!(with(|b| b.log_len = 1), Err(1));
+        let counted = |n| counts(&Bank { gaps_seen: n, ..b });
+        assert_eq!(
+            (counted(4_294_967_294), counted(4_294_967_295)),
+            (Ok(()), Err(2))
+        );
     }
 }

@@ -1,3 +1,5 @@
 pub mod Answers
 pub mod Classes
 pub mod Handing
+pub mod Banking
+pub mod Rivals

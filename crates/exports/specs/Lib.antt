@@ -1,3 +1,4 @@
 pub mod Answers
 pub mod Sender
 pub mod Tracker
+pub mod Bank

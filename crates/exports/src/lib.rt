@@ -1,6 +1,7 @@
 // The library as C and Rust link it: plain numbers in, the refusal's number out (0: done), the answer behind a reference.
 // A module for each layer, named `of_` and the layer's crate.
 pub mod inner;
+pub mod of_bank;
 pub mod of_numbers;
 pub mod of_sender;
 pub mod of_tracker;

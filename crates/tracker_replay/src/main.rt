@@ -4,8 +4,6 @@
 // H set_ratio_hint, each with its number in the first field; F bootstrap, T take_badlock_recovered, R reseed_wpm_after_warmup; L
 // puts a gap on the list, and U calls resolve_unimodal_bootstrap with the list and empties it; V reads; S sets a part (its
 // number, its place, its value); N starts anew.
-use crate::parts::set_part;
-use crate::shown::put_tracker;
 use exports::of_tracker as calls;
 use replay::float;
 use replay::put_byte;
@@ -13,10 +11,9 @@ use replay::put_code;
 use replay::put_flag;
 use replay::put_float;
 use replay::put_word;
+use shown::parts::set_part;
+use shown::put_tracker;
 use tracker::SpeedTracker;
-
-mod parts;
-mod shown;
 
 // A tracker, and the gaps that the next list has.
 struct Run {

@@ -2,6 +2,8 @@
 
 use crate::compare::{report, Limit};
 
+#[cfg(manta)]
+pub mod bank;
 pub mod numbers;
 #[cfg(manta)]
 pub mod sender;
@@ -24,8 +26,9 @@ pub struct Entry {
 /// The layers beside manta's Rust; without it nothing is run.
 #[cfg(manta)]
 mod beside_manta {
-    use super::{report, sender, tracker, Report};
+    use super::{bank, report, sender, tracker, Report};
 
+    pub const BANK: Report = report::<bank::Banks>;
     pub const SENDER: Report = report::<sender::Sender>;
     pub const TRACKER: Report = report::<tracker::Tracker>;
 }
@@ -34,6 +37,7 @@ mod beside_manta {
 mod beside_manta {
     use super::Report;
 
+    pub const BANK: Report = |_, _| false;
     pub const SENDER: Report = |_, _| false;
     pub const TRACKER: Report = |_, _| false;
 }
@@ -56,5 +60,11 @@ pub const LAYERS: &[Entry] = &[
         gate: 45,
         needs_manta: true,
         report: beside_manta::TRACKER,
+    },
+    Entry {
+        name: "bank",
+        gate: 60,
+        needs_manta: true,
+        report: beside_manta::BANK,
     },
 ];

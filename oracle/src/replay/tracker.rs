@@ -7,21 +7,15 @@
 //! sets a part (its number, its place, its value); N starts anew. An answer is the letter, the code and whether it said yes, or for V
 //! each reading with its code; then the tracker, lists with their counts before them, absent numbers left out.
 
-use super::{float, Files};
-use crate::compare::Layer;
+use super::{count, flag, held, line, number, Files};
 use crate::hullathan::tracker::SpeedTracker as Plain;
-use crate::layers::tracker::{random_case, Both, Call, Part, Told, Tracker, PARTS};
+use crate::layers::tracker::{parts, random_case, Both, Call, Told, Tracker, PARTS};
 use crate::random::Random;
-use crate::shrink::{shrink, smaller_list};
-use std::collections::BTreeSet;
 
 const STDIN: &str = include_str!("../../../crates/tracker_replay/stdin");
 
-fn line(letter: char, a: u32, b: u32, c: u32) -> String {
-    format!("{letter} 0 {a:08X} {b:08X} {c:08X}\n")
-}
-
 fn lines(call: &Call) -> String {
+    let line = |letter, a, b, c| line(letter, 0, a, b, c);
     match call {
         Call::Mark(d) => line('M', *d, 0, 0),
         Call::Gap(d) => line('G', *d, 0, 0),
@@ -69,28 +63,8 @@ fn parse(script: &str) -> Vec<Call> {
     calls
 }
 
-fn number(v: f32) -> String {
-    format!(" {}", float(v))
-}
-
-fn count(n: usize) -> String {
-    format!(" {n:08X}")
-}
-
-fn flag(b: bool) -> String {
-    format!(" {}", u8::from(b))
-}
-
-fn held(has: bool, v: f32) -> String {
-    if has {
-        flag(true) + &number(v)
-    } else {
-        flag(false)
-    }
-}
-
 /// A tracker: its parts in order. Of a count above its capacity all places are shown.
-fn tracker(t: &Plain) -> String {
+pub fn tracker(t: &Plain) -> String {
     let p = &t.pair;
     let mut s = number(p.lo) + &number(p.hi) + &count(p.init_len);
     s.extend(p.init.iter().take(p.init_len).map(|&v| number(v)));
@@ -156,52 +130,6 @@ pub fn files() -> Files {
     }
 }
 
-/// The branches that a list reaches.
-fn reaches(calls: &Vec<Call>) -> BTreeSet<usize> {
-    let counts = || Tracker::reached().iter().map(|b| b.count());
-    let before: Vec<u64> = counts().collect();
-    Tracker::run(calls).expect("no difference");
-    let after = counts().zip(before).map(|(b, a)| b > a);
-    after.enumerate().filter(|x| x.1).map(|x| x.0).collect()
-}
-
-/// A tracker that is handed in, part for part, onto a fresh one.
-fn parts(t: &Plain) -> Vec<Call> {
-    let p = &t.pair;
-    let bits = |v: f32| if v.is_nan() { 0x7FC0_0000 } else { v.to_bits() };
-    let mut all = vec![Call::Fresh];
-    let mut put = |part, i: usize, v: u32| all.push(Call::Set(part, i as u8, v));
-    put(Part::Lo, 0, bits(p.lo));
-    put(Part::Hi, 0, bits(p.hi));
-    put(Part::InitLen, 0, p.init_len as u32);
-    put(Part::Ready, 0, u32::from(p.ready));
-    put(Part::Confirmed, 0, u32::from(p.confirmed));
-    put(Part::PlaceholderIsLo, 0, u32::from(p.placeholder_is_lo));
-    put(Part::LoN, 0, p.lo_n as u32);
-    put(Part::RingLen, 0, t.ring_len as u32);
-    for i in 0..12 {
-        put(Part::Init, i, bits(p.init[i]));
-        put(Part::RingDur, i, bits(t.ring[i].dur_ms));
-        put(Part::RingDit, i, u32::from(t.ring[i].assigned_dit));
-        put(Part::RingLo, i, bits(t.ring[i].pre_lo));
-        put(Part::RingHi, i, bits(t.ring[i].pre_hi));
-    }
-    put(Part::HasWpm, 0, u32::from(t.has_wpm));
-    put(Part::Wpm, 0, bits(t.wpm_ema));
-    put(Part::RecentLen, 0, t.recent_len as u32);
-    for i in 0..5 {
-        put(Part::Recent, i, bits(t.recent[i]));
-    }
-    put(Part::HasEgap, 0, u32::from(t.has_egap));
-    put(Part::Egap, 0, bits(t.mu_egap_ms));
-    put(Part::HasHint, 0, u32::from(t.has_hint));
-    put(Part::Hint, 0, bits(t.ratio_hint));
-    put(Part::Regime, 0, t.regime);
-    put(Part::Recovered, 0, u32::from(t.badlock_recovered));
-    put(Part::Uncorroborated, 0, u32::from(t.lo_uncorroborated));
-    all
-}
-
 /// Without trackers handed in whole.
 fn spelled(case: Vec<Call>) -> Vec<Call> {
     let spell = |c| match c {
@@ -245,34 +173,17 @@ fn by_hand() -> Vec<Call> {
     s
 }
 
-/// A list that reaches every branch: by hand, and then for each branch that is left a random list, made as short as it can be.
+/// A list that reaches every branch.
 fn choose() -> Vec<Call> {
-    let mut calls = by_hand();
-    let mut done = reaches(&calls);
-    let mut seed = 0;
-    while done.len() < Tracker::reached().len() {
-        seed += 1;
-        assert!(seed < 1_000_000, "a branch was not reached");
-        let case = spelled(random_case(&mut Random::new(seed)));
-        let new: BTreeSet<usize> = reaches(&case).difference(&done).copied().collect();
-        if new.is_empty() {
-            continue;
-        }
-        let least = shrink(
-            case,
-            |c| smaller_list(c, |_| Vec::new()),
-            |c| reaches(c).is_superset(&new),
-        );
-        done.extend(reaches(&least));
-        calls.push(Call::Fresh);
-        calls.extend(least);
-    }
-    calls
+    let random = |random: &mut Random| spelled(random_case(random));
+    super::choose::<Tracker, Call>(by_hand(), random, &[Call::Fresh], usize::MAX)
 }
 
 #[cfg(test)]
 mod tests {
     use super::*;
+    use crate::compare::Layer;
+    use crate::replay::reaches;
 
     /// What stands in the repository is what the Rust answers to the list there.
     #[test]
@@ -285,7 +196,7 @@ mod tests {
     /// The list alone reaches every branch.
     #[test]
     fn every_branch() {
-        let reached = reaches(&script());
+        let reached = reaches::<Tracker>(&script());
         for (i, b) in Tracker::reached().iter().enumerate() {
             assert!(reached.contains(&i), "not reached: {}", b.name);
         }

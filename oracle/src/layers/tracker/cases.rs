@@ -2,15 +2,16 @@
 
 use super::{manta, set, Call, Handed, Part};
 use crate::hullathan::tracker::{RingEntry, SpeedTracker as Plain};
+use crate::keying::{Sender, Style};
 use crate::manta::timing::SpeedTracker;
 use crate::patterns::near32;
 use crate::random::Random;
 use crate::refusals;
 
-const NAN: u32 = 0x7FC0_0000;
-const INFINITY: u32 = 0x7F80_0000;
-const MINUS: u32 = 1 << 31;
-const ODD: [u32; 9] = [
+pub const NAN: u32 = 0x7FC0_0000;
+pub const INFINITY: u32 = 0x7F80_0000;
+pub const MINUS: u32 = 1 << 31;
+pub const ODD: [u32; 9] = [
     NAN,
     INFINITY,
     INFINITY | MINUS,
@@ -23,7 +24,7 @@ const ODD: [u32; 9] = [
 ];
 
 /// A number at one of the limits, or next to it.
-fn about(random: &mut Random, limits: &[f32]) -> u32 {
+pub fn about(random: &mut Random, limits: &[f32]) -> u32 {
     let limit = random.pick(limits).to_bits();
     match random.below(4) {
         0 => limit,
@@ -34,7 +35,7 @@ fn about(random: &mut Random, limits: &[f32]) -> u32 {
 }
 
 /// A duration from 1/64 to 262,144, more often one of a keyed mark.
-fn good(random: &mut Random) -> f32 {
+pub fn good(random: &mut Random) -> f32 {
     match random.below(6) {
         0 => random.scale(1.0 / 64.0, 262_144.0) as f32,
         1 => random.pick(&[1.0 / 64.0, 262_144.0, 20.0, 150.0, 60.0, 450.0]),
@@ -42,23 +43,10 @@ fn good(random: &mut Random) -> f32 {
     }
 }
 
-/// How a sender keys.
-#[derive(Clone, Copy)]
-enum Style {
-    Text,
-    Dits,
-    Dahs,
-}
-
 /// A sender, and the Rust's tracker as far as the list goes.
 struct Session<'a> {
     random: &'a mut Random,
-    dit: f32,
-    ratio: f32,
-    jitter: f32,
-    style: Style,
-    gap: f32,
-    whole: bool,
+    sender: Sender,
     rust: SpeedTracker,
     calls: Vec<Call>,
 }
@@ -83,19 +71,6 @@ impl Session<'_> {
             _ => {}
         }
         self.calls.push(call);
-    }
-
-    fn mark(&mut self) -> u32 {
-        let dah = match self.style {
-            Style::Text => self.random.below(2) == 0,
-            Style::Dits => false,
-            Style::Dahs => true,
-        };
-        let units = if dah { self.ratio } else { 1.0 };
-        let off = 1.0 + self.jitter * (2.0 * self.random.fraction() as f32 - 1.0);
-        let d = self.dit * units * off;
-        let d = if self.whole { d.round() } else { d };
-        d.clamp(1.0 / 64.0, 262_144.0).to_bits()
     }
 
     /// A mark that meets a limit of the tracker as it is.
@@ -154,31 +129,20 @@ impl Session<'_> {
         self.push(call);
     }
 
-    fn change(&mut self) {
-        match self.random.below(6) {
-            0 => self.style = self.random.pick(&[Style::Text, Style::Dits, Style::Dahs]),
-            1 => self.ratio = self.random.scale(1.8, 7.5) as f32,
-            2 => self.gap = self.random.pick(&[0.0, 0.3, 1.0, 1.0, 2.5]),
-            3 => self.jitter = self.random.pick(&[0.0, 0.05, 0.2, 0.6]),
-            _ => self.dit = (self.dit * self.random.scale(0.3, 3.0) as f32).clamp(4.0, 700.0),
-        }
-    }
-
     fn key(&mut self, marks: u64) {
         for _ in 0..marks {
             if self.random.below(40) == 0 {
-                self.change();
+                self.sender.change(self.random);
             }
             let d = if self.random.below(30) == 0 {
                 self.special()
             } else {
-                self.mark()
+                self.sender.mark(self.random)
             };
             self.push(Call::Mark(d));
-            if self.gap > 0.0 && self.random.below(3) > 0 {
-                let off = 1.0 + self.jitter * (2.0 * self.random.fraction() as f32 - 1.0);
-                let g = (self.dit * self.gap * off).clamp(1.0 / 64.0, 262_144.0);
-                self.push(Call::Gap(g.to_bits()));
+            if self.sender.gap > 0.0 && self.random.below(3) > 0 {
+                let g = self.sender.gap_of(self.sender.gap, self.random);
+                self.push(Call::Gap(g));
             }
             if self.random.below(16) == 0 {
                 self.other();
@@ -188,20 +152,10 @@ impl Session<'_> {
 }
 
 fn session(random: &mut Random) -> Session<'_> {
-    let dit = random.scale(14.0, 210.0) as f32;
-    let ratio = random.pick(&[3.0, 3.0, 2.0, 2.5, 4.0, 5.9, 7.0]);
-    let jitter = random.pick(&[0.0, 0.02, 0.1, 0.25, 0.5]);
-    let style = random.pick(&[Style::Text, Style::Text, Style::Dits, Style::Dahs]);
-    let gap = random.pick(&[0.0, 0.0, 0.5, 1.0, 1.0, 2.0]);
-    let whole = random.below(3) == 0;
+    let sender = Sender::new(random);
     Session {
         random,
-        dit,
-        ratio,
-        jitter,
-        style,
-        gap,
-        whole,
+        sender,
         rust: SpeedTracker::new(),
         calls: Vec::new(),
     }
@@ -219,12 +173,12 @@ fn keyed(random: &mut Random) -> Vec<Call> {
 /// A short first run, then marks of one class, with or without gaps: a lock on a fragment.
 fn fragment(random: &mut Random) -> Vec<Call> {
     let mut s = session(random);
-    s.style = s.random.pick(&[Style::Dits, Style::Dahs, Style::Dahs]);
-    s.jitter = s.random.pick(&[0.0, 0.05, 0.2]);
-    s.gap = s.random.pick(&[0.0, 0.0, 1.0, 1.0, 3.0]);
-    let unit = match s.style {
-        Style::Dits => s.dit,
-        _ => s.dit * s.ratio,
+    s.sender.style = s.random.pick(&[Style::Dits, Style::Dahs, Style::Dahs]);
+    s.sender.jitter = s.random.pick(&[0.0, 0.05, 0.2]);
+    s.sender.gap = s.random.pick(&[0.0, 0.0, 1.0, 1.0, 3.0]);
+    let unit = match s.sender.style {
+        Style::Dits => s.sender.dit,
+        _ => s.sender.dit * s.sender.ratio,
     };
     let first = unit * s.random.scale(0.1, 0.45) as f32;
     if s.random.below(4) == 0 {
@@ -247,7 +201,7 @@ fn fragment(random: &mut Random) -> Vec<Call> {
 fn short(random: &mut Random) -> Vec<Call> {
     let mut s = session(random);
     if s.random.below(2) == 0 {
-        s.style = s.random.pick(&[Style::Dits, Style::Dahs]);
+        s.sender.style = s.random.pick(&[Style::Dits, Style::Dahs]);
     }
     let marks = s.random.below(7);
     s.key(marks);
@@ -263,7 +217,7 @@ fn short(random: &mut Random) -> Vec<Call> {
     s.calls
 }
 
-fn centroids(random: &mut Random) -> (f32, f32) {
+pub fn centroids(random: &mut Random) -> (f32, f32) {
     match random.below(6) {
         0 => (20.0, 16.0),
         1 => (150.0, 2_500.0),
@@ -290,7 +244,7 @@ fn positive(random: &mut Random, low: f64, high: f64) -> f32 {
 }
 
 /// Any sound tracker; what is no part of it is junk.
-fn sound(random: &mut Random) -> Plain {
+pub fn sound(random: &mut Random) -> Plain {
     let mut t = Plain::default();
     let flags = random.bits();
     let flag = |i: u32| flags >> i & 1 == 1;
@@ -411,7 +365,7 @@ impl Random {
 }
 
 /// A part of a tracker at one of its limits, from either side.
-fn limit(random: &mut Random, t: &mut Plain) {
+pub fn limit(random: &mut Random, t: &mut Plain) {
     let duration = [1.0 / 64.0, 262_144.0];
     let i = random.below(12) as u8;
     let odd = |random: &mut Random, limits: &[f32]| match random.below(5) {

@@ -1,6 +1,6 @@
 //! The speed tracker, beside manta's `SpeedTracker` with the refusals of document 01 before it.
 
-mod cases;
+pub(crate) mod cases;
 mod count;
 
 use crate::compare::{Difference, Layer};
@@ -102,7 +102,7 @@ impl PartialEq for Handed {
     }
 }
 
-fn show(bits: u32) -> String {
+pub fn show(bits: u32) -> String {
     format!("{bits:08X} ({:e})", f32::from_bits(bits))
 }
 
@@ -159,6 +159,43 @@ pub fn set(t: &mut Plain, part: Part, i: u8, v: u32) {
     }
 }
 
+/// A tracker that is handed in, part for part, onto a fresh one.
+pub fn parts(t: &Plain) -> Vec<Call> {
+    let p = &t.pair;
+    let bits = |v: f32| if v.is_nan() { 0x7FC0_0000 } else { v.to_bits() };
+    let mut all = vec![Call::Fresh];
+    let mut put = |part, i: usize, v: u32| all.push(Call::Set(part, i as u8, v));
+    put(Part::Lo, 0, bits(p.lo));
+    put(Part::Hi, 0, bits(p.hi));
+    put(Part::InitLen, 0, p.init_len as u32);
+    put(Part::Ready, 0, u32::from(p.ready));
+    put(Part::Confirmed, 0, u32::from(p.confirmed));
+    put(Part::PlaceholderIsLo, 0, u32::from(p.placeholder_is_lo));
+    put(Part::LoN, 0, p.lo_n as u32);
+    put(Part::RingLen, 0, t.ring_len as u32);
+    for i in 0..12 {
+        put(Part::Init, i, bits(p.init[i]));
+        put(Part::RingDur, i, bits(t.ring[i].dur_ms));
+        put(Part::RingDit, i, u32::from(t.ring[i].assigned_dit));
+        put(Part::RingLo, i, bits(t.ring[i].pre_lo));
+        put(Part::RingHi, i, bits(t.ring[i].pre_hi));
+    }
+    put(Part::HasWpm, 0, u32::from(t.has_wpm));
+    put(Part::Wpm, 0, bits(t.wpm_ema));
+    put(Part::RecentLen, 0, t.recent_len as u32);
+    for i in 0..5 {
+        put(Part::Recent, i, bits(t.recent[i]));
+    }
+    put(Part::HasEgap, 0, u32::from(t.has_egap));
+    put(Part::Egap, 0, bits(t.mu_egap_ms));
+    put(Part::HasHint, 0, u32::from(t.has_hint));
+    put(Part::Hint, 0, bits(t.ratio_hint));
+    put(Part::Regime, 0, t.regime);
+    put(Part::Recovered, 0, u32::from(t.badlock_recovered));
+    put(Part::Uncorroborated, 0, u32::from(t.lo_uncorroborated));
+    all
+}
+
 /// The same tracker in manta's struct, where no count is above its capacity.
 pub fn manta(t: &Plain) -> SpeedTracker {
     let p = &t.pair;
@@ -182,15 +219,15 @@ pub fn manta(t: &Plain) -> SpeedTracker {
     m
 }
 
-fn same_float(a: f32, b: f32) -> bool {
+pub fn same_float(a: f32, b: f32) -> bool {
     a.to_bits() == b.to_bits()
 }
 
-fn same_floats<'a>(a: &[f32], b: impl ExactSizeIterator<Item = &'a f32>) -> bool {
+pub fn same_floats<'a>(a: &[f32], b: impl ExactSizeIterator<Item = &'a f32>) -> bool {
     a.len() == b.len() && a.iter().zip(b).all(|(&a, &b)| same_float(a, b))
 }
 
-fn same_option(has: bool, x: f32, other: Option<f32>) -> bool {
+pub fn same_option(has: bool, x: f32, other: Option<f32>) -> bool {
     match other {
         Some(y) => has && same_float(x, y),
         None => !has,
@@ -198,7 +235,7 @@ fn same_option(has: bool, x: f32, other: Option<f32>) -> bool {
 }
 
 /// Whether the library's tracker is the Rust's, in every part.
-fn same(t: &Plain, m: &SpeedTracker) -> bool {
+pub fn same(t: &Plain, m: &SpeedTracker) -> bool {
     let p = &t.pair;
     let q = &m.pair;
     same_float(p.lo, q.lo)
@@ -228,7 +265,7 @@ fn same(t: &Plain, m: &SpeedTracker) -> bool {
 }
 
 /// Whether two are the same bit for bit, places beyond a count and absent numbers too.
-fn identical(a: &Plain, b: &Plain) -> bool {
+pub fn identical(a: &Plain, b: &Plain) -> bool {
     let (p, q) = (&a.pair, &b.pair);
     let entry = |(e, f): (&RingEntry, &RingEntry)| {
         same_float(e.dur_ms, f.dur_ms)
@@ -477,7 +514,16 @@ impl Both {
         Ok(ours)
     }
 
-    fn compare(&self, call: &Call) -> Result<(), Difference> {
+    /// The Rust's tracker, where the state is sound.
+    pub fn sound_mut(&mut self) -> &mut SpeedTracker {
+        match &mut self.rust {
+            Rust::Fits(t) => t,
+            Rust::Over(_) => unreachable!("a count above its capacity is unsound"),
+        }
+    }
+
+    /// Whether the two are the same now, after what the text says.
+    pub fn compare(&self, call: &dyn fmt::Debug) -> Result<(), Difference> {
         match &self.rust {
             Rust::Fits(m) if !same(&self.ours, m) => {
                 let ours = &self.ours;
@@ -547,7 +593,7 @@ impl Layer for Tracker {
 }
 
 /// The call with one of its numbers made simpler.
-fn simpler(call: &Call) -> Vec<Call> {
+pub fn simpler(call: &Call) -> Vec<Call> {
     let with = |bits: u32, of: fn(u32) -> Call| simpler_f32(bits).into_iter().map(of).collect();
     match call {
         Call::Mark(d) => with(*d, Call::Mark),

@@ -74,7 +74,7 @@ fn with_rest(t: SpeedTracker, part: u32, i: usize, v: u32) -> SpeedTracker {
 }
 
 // The tracker with one part set.
-pub(crate) fn set_part(t: SpeedTracker, part: u32, place: u32, v: u32) -> SpeedTracker {
+pub fn set_part(t: SpeedTracker, part: u32, place: u32, v: u32) -> SpeedTracker {
     let i = place as usize;
     if part < 8 {
         let p = t.pair;

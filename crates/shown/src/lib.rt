@@ -1,4 +1,5 @@
-// A tracker as it is printed: its parts in order, lists with their counts before them, absent numbers left out.
+// What the programs that replay calls of a tracker share: a tracker as it is printed, its parts in order, lists with their counts
+// before them, absent numbers left out; and a part of one set.
 use pair::ClusterPair;
 use replay::put_flag;
 use replay::put_float;
@@ -6,12 +7,14 @@ use replay::put_word;
 use ring::RingEntry;
 use tracker::SpeedTracker;
 
+pub mod parts;
+
 // A count; none here is above 32 bits.
-fn put_count(n: usize) {
+pub fn put_count(n: usize) {
     put_word((n % 4294967296) as u32);
 }
 
-fn put_held(has: bool, v: f32) {
+pub fn put_held(has: bool, v: f32) {
     put_flag(has);
     if has {
         put_float(v);
@@ -69,7 +72,7 @@ fn put_pair(p: ClusterPair) {
     put_count(p.lo_n);
 }
 
-pub(crate) fn put_tracker(t: SpeedTracker) {
+pub fn put_tracker(t: SpeedTracker) {
     let p = t.pair;
     put_pair(p);
     put_ring(t);

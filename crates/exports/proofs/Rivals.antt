@@ -1,0 +1,175 @@
+-- What a public call of a bank answers stands in the plain form that leaves; a form that is no bank's is refused. Assumes nothing.
+use mathlib.Core.Path.{_≡_, refl, ap, sym, _∙_, subst}
+use mathlib.Core.Bool.{Bool, true, false, cond}
+use mathlib.Core.List.{List, map}
+use Prim.Native.Nat.{ℕ, zero, suc, _≤_}
+use native.Mathlib.Omega.{arith}
+use lib.Dec.{T, eqb}
+use borrow.Author.Tests.{eq-eqb, ne-eqb}
+use Rattle.ranges.specs.Limits.{nought}
+use Rattle.ranges.specs.Settings.{standard}
+use Rattle.tracker.specs.declared.SpeedTracker.{SpeedTracker}
+use Rattle.tracker.specs.declared.Told.{Told}
+use Rattle.tracker.specs.Model as Tracked
+use Rattle.tracker.specs.Sound as Tracking
+use Rattle.tracker.specs.Answers.{done, flag, ofTold, ofFlag, unless}
+use Rattle.bank_model.specs.Model as Model
+use Rattle.bank_model.specs.Steps as Steps
+use Rattle.bank.specs.declared.TimingBank.{TimingBank}
+use Rattle.bank.specs.declared.Changed.{Changed}
+use Rattle.bank.specs.declared.Answered.{Answered}
+use Rattle.bank.specs.declared.Heard.{Heard}
+use Rattle.bank.specs.declared.Switched.{Switched}
+use Rattle.bank.specs.View.{view, told}
+use Rattle.bank.specs.Parts.{widest}
+use Rattle.bank.specs.Sound.{sound}
+use Rattle.bank.specs.Answers.{Answers, Hears, Started, Switches, bankThen, widthRefusal, taken}
+use Rattle.plain.specs.declared.PlainBank.{PlainBank}
+use Rattle.plain.specs.declared.PlainDeparture.{PlainDeparture}
+use Rattle.plain.specs.declared.PlainHypothesis.{PlainHypothesis}
+use Rattle.plain.specs.Plain.{bankOf, plainBank, plainDeparture, isBank, departures}
+use Rattle.plain.proofs.Back.{bank-back, bank-named, departures-back}
+use Rattle.exports.specs.declared.of_bank.BankAnswered.{BankAnswered}
+use Rattle.exports.specs.declared.of_bank.BankHeard.{BankHeard}
+use Rattle.exports.specs.declared.of_bank.BankSwitched.{BankSwitched}
+use Rattle.exports.specs.declared.of_bank.BankChallenger.{BankChallenger}
+use Rattle.exports.specs.Tracker.{code, yes}
+use Rattle.exports.specs.Bank.{BankAnswers, BankHears, BankStarted, BankSwitches, Well, handedOn, heardOn, passedOn, plainThen, switchedOn, takenOf, toldOf}
+use Rattle.exports.proofs.Banking.{a-told, a-taken}
+
+code-unless : (n : ℕ) → code (unless n done) ≡ n
+code-unless zero = refl
+code-unless (suc n) = refl
+
+code-flag : (n : ℕ) (is : Bool) → code (unless n (flag is)) ≡ n
+code-flag zero is = refl
+code-flag (suc n) is = refl
+
+yes-flag : (n : ℕ) (is : Bool) → yes (unless n (flag is)) ≡ cond (eqb n 0) is false
+yes-flag zero is = refl
+yes-flag (suc n) is = rw (ne-eqb (suc n) 0 (λ w. absurd (omega arith)))
+
+-- the form that is handed on, by the code
+pub done-with : {n : ℕ} (b : PlainBank) (d : TimingBank) → n ≡ 0 → handedOn n b d ≡ plainBank d
+done-with {n} b d e = rw (eq-eqb n 0 e)
+
+pub refused-with : {n : ℕ} (b : PlainBank) (d : TimingBank) → (n ≡ 0 → ⊥) → handedOn n b d ≡ b
+refused-with {n} b d h = rw (ne-eqb n 0 h)
+
+pub well : (d : TimingBank) → T (sound standard widest d) → Well (plainBank d)
+well d h = record { is = bank-named d; sound = subst (λ (z : TimingBank). T (sound standard widest z)) (sym (bank-back d)) h }
+
+well-as : {q : PlainBank} (d : TimingBank) → q ≡ plainBank d → T (sound standard widest d) → Well q
+well-as d e h = subst Well (sym e) (well d h)
+
+view-as : {q : PlainBank} (d : TimingBank) → q ≡ plainBank d → view (bankOf q) ≡ view d
+view-as d e = ap (λ (z : PlainBank). view (bankOf z)) e ∙ ap view (bank-back d)
+
+told-as : {q : PlainBank} (c : Changed) → q ≡ plainBank (c .bank) → toldOf q (map plainDeparture (c .left)) (c .«left_len») ≡ told c
+told-as {q} c e =
+    ap (λ (z : PlainBank). toldOf z (map plainDeparture (c .left)) (c .«left_len»)) e ∙ ap (λ (z : TimingBank). a-told z (departures (map plainDeparture (c .left)) (c .«left_len»))) (bank-back (c .bank))
+    ∙ ap (a-told (c .bank)) (departures-back (c .left) (c .«left_len»))
+
+-- what a switch call leaves, with another bank
+abbrev taking : TimingBank → Switched → Bool → Steps.Taken
+taking v r is = record { bank = view v; primary = Tracked.view (r .primary); serial = r .serial; switched = is }
+
+-- ---- a form that is a bank's
+module _ (b : PlainBank) (e : isBank b ≡ true) where
+  known : (n : ℕ) → plainThen b n ≡ n
+  known n = rw e
+
+  pub answers : (n : ℕ) (m : Model.Told) (why : Told) (c : Changed) → Answers standard n (bankOf b) m why c → BankAnswers (plainThen b n) b m (passedOn b why c)
+  answers n m why c h =
+      let q = code (ofTold why) in
+      let i : q ≡ n = ap code (h .says) ∙ code-unless n in
+      record {
+        says = i ∙ sym (known n);
+        kept = λ z. (refused-with b (c .bank) (λ w. z (known n ∙ sym i ∙ w)), h .kept (λ w. z (known n ∙ w)) .1);
+        state = λ z. told-as c (done-with b (c .bank) (i ∙ sym (known n) ∙ z)) ∙ h .state (sym (known n) ∙ z);
+        still = λ z. well-as (c .bank) (done-with b (c .bank) (i ∙ sym (known n) ∙ z)) (h .still (sym (known n) ∙ z));
+        few = h .few;
+      }
+
+  pub hears : (n : ℕ) (m : Model.Bank) (why : Told) (d : TimingBank) → Hears standard n (bankOf b) m why d → BankHears (plainThen b n) b m (heardOn b why d)
+  hears n m why d h =
+      let q = code (ofTold why) in
+      let i : q ≡ n = ap code (h .says) ∙ code-unless n in
+      record {
+        says = i ∙ sym (known n);
+        kept = λ z. refused-with b d (λ w. z (known n ∙ sym i ∙ w));
+        state = λ z. view-as d (done-with b d (i ∙ sym (known n) ∙ z)) ∙ h .bank .state (sym (known n) ∙ z);
+        still = λ z. well-as d (done-with b d (i ∙ sym (known n) ∙ z)) (h .bank .still (sym (known n) ∙ z));
+      }
+
+  pub switches : (n : ℕ) (p : SpeedTracker) (serial : ℕ) (m : Steps.Taken) (r : Switched) → Switches standard n (bankOf b) p serial m r → BankSwitches (plainThen b n) b p serial m (switchedOn b r)
+  switches n p serial m r h =
+      let q = code (ofFlag (r .flag)) in
+      let i : q ≡ n = ap code (h .says) ∙ code-flag n (m .switched) in
+      record {
+        says = i ∙ sym (known n);
+        flag = ap yes (h .says) ∙ yes-flag n (m .switched) ∙ ap (λ (k : ℕ). cond (eqb k 0) (m .switched) false) (sym (known n));
+        kept = λ z. (refused-with b (r .bank) (λ w. z (known n ∙ sym i ∙ w)), h .kept (λ w. z (known n ∙ w)) .1);
+        state = λ z. ap (λ (v : PlainBank). takenOf v (r .primary) (r .serial) (m .switched)) (done-with b (r .bank) (i ∙ sym (known n) ∙ z)) ∙ ap (λ (v : TimingBank). taking v r (m .switched)) (bank-back (r .bank)) ∙ h .state (sym (known n) ∙ z);
+        still = λ z. (well-as (r .bank) (done-with b (r .bank) (i ∙ sym (known n) ∙ z)) (h .still (sym (known n) ∙ z) .0), h .still (sym (known n) ∙ z) .1);
+      }
+
+-- ---- one that is not
+module _ (b : PlainBank) (e : isBank b ≡ false) where
+  barred : (n : ℕ) → plainThen b n ≡ 1
+  barred n = rw e
+
+  never : {A : Type 0} (n : ℕ) → plainThen b n ≡ 0 → A
+  never n z = let w : _≡_ {A = ℕ} 1 0 = sym (barred n) ∙ z in absurd (omega arith)
+
+  pub answers-not : (n : ℕ) (m : Model.Told) (r : BankAnswered) → (r .code ≡ 1) × ((r .bank ≡ b) × (r .«left_len» ≡ 0)) → BankAnswers (plainThen b n) b m r
+  answers-not n m r h = let k = h .1 .1 in record { says = h .0 ∙ sym (barred n); kept = λ z. h .1; state = never n; still = never n; few = omega arith }
+
+  pub hears-not : (n : ℕ) (m : Model.Bank) → BankHears (plainThen b n) b m (record { code = 1; bank = b })
+  hears-not n m = record { says = sym (barred n); kept = λ z. refl; state = never n; still = never n }
+
+  pub switches-not : (n : ℕ) (p : SpeedTracker) (serial : ℕ) (m : Steps.Taken) → BankSwitches (plainThen b n) b p serial m (record { code = 1; yes = false; bank = b; primary = p; serial = serial })
+  switches-not n p serial m = record { says = sym (barred n); flag = rw (barred n); kept = λ z. (refl, (refl, refl)); state = never n; still = never n }
+
+-- ---- a start
+pub started : (width : ℕ) (switching : Bool) (why : Told) (d : TimingBank) {n : ℕ} {q : PlainBank} → n ≡ code (ofTold why) → q ≡ plainBank d → Started standard width switching why d → BankStarted width switching (record { code = n; bank = q })
+started width switching why d e f h = record { says = e ∙ ap code (h .says) ∙ code-unless (widthRefusal width); state = view-as d f ∙ h .state; still = well-as d f (h .still) }
+
+-- ---- a call on the bank that was read from the form b
+module _ (b : PlainBank) (c : TimingBank) (e : c ≡ bankOf b) (i : isBank b ≡ true) where
+  pub answered-by : (n : TimingBank → ℕ) (m : TimingBank → Model.Told) (a : Answered) (r : BankAnswered) → Answers standard (n c) c (m c) (a .told) (a .changed) → r ≡ passedOn b (a .told) (a .changed) → BankAnswers (plainThen b (n (bankOf b))) b (m (bankOf b)) r
+  answered-by n m a r h f =
+      subst (λ (z : BankAnswered). BankAnswers (plainThen b (n (bankOf b))) b (m (bankOf b)) z) (sym f) (answers b i (n (bankOf b)) (m (bankOf b)) (a .told) (a .changed) (subst (λ (z : TimingBank). Answers standard (n z) z (m z) (a .told) (a .changed)) e h))
+
+  pub heard-by : (n : TimingBank → ℕ) (m : TimingBank → Model.Bank) (a : Heard) (r : BankHeard) → Hears standard (n c) c (m c) (a .told) (a .bank) → r ≡ heardOn b (a .told) (a .bank) → BankHears (plainThen b (n (bankOf b))) b (m (bankOf b)) r
+  heard-by n m a r h f =
+      subst (λ (z : BankHeard). BankHears (plainThen b (n (bankOf b))) b (m (bankOf b)) z) (sym f) (hears b i (n (bankOf b)) (m (bankOf b)) (a .told) (a .bank) (subst (λ (z : TimingBank). Hears standard (n z) z (m z) (a .told) (a .bank)) e h))
+
+  pub switched-by : (n : TimingBank → ℕ) (p : SpeedTracker) (serial : ℕ) (m : TimingBank → Steps.Taken) (a : Switched) (r : BankSwitched) → Switches standard (n c) c p serial (m c) a → r ≡ switchedOn b a → BankSwitches (plainThen b (n (bankOf b))) b p serial (m (bankOf b)) r
+  switched-by n p serial m a r h f =
+      subst (λ (z : BankSwitched). BankSwitches (plainThen b (n (bankOf b))) b p serial (m (bankOf b)) z) (sym f) (switches b i (n (bankOf b)) p serial (m (bankOf b)) a (subst (λ (z : TimingBank). Switches standard (n z) z p serial (m z) a) e h))
+
+  pub told-by : {A : Type 0} (f : ℕ → TimingBank → A) (r : A) → r ≡ f (bankThen standard c 0) c → r ≡ f (plainThen b (bankThen standard (bankOf b) 0)) (bankOf b)
+  told-by {A} f r h = h ∙ ap (λ (z : TimingBank). f (bankThen standard z 0) z) e ∙ ap (λ (n : ℕ). f n (bankOf b)) (sym (known b i (bankThen standard (bankOf b) 0)))
+
+pub told-not : {A : Type 0} (b : PlainBank) (e : isBank b ≡ false) (n : ℕ) (f : ℕ → A) (r : A) → r ≡ f 1 → r ≡ f (plainThen b n)
+told-not b e n f r h = h ∙ ap f (sym (barred b e n))
+
+-- ---- the parts of an answer
+abbrev pub a-challenger : ℕ → Bool → PlainHypothesis → BankChallenger
+a-challenger n has h = record { code = n; has = has; challenger = h }
+
+abbrev pub with-tracker : SpeedTracker → PlainHypothesis
+with-tracker t = record {
+  tracker = t;
+  score = nought;
+  «gap_score» = nought;
+  «lead_marks» = 0;
+  «age_marks» = 0;
+  origin = 0;
+  «retain_marks» = 0;
+  reported = false;
+  «ln_lo» = nought;
+  «ln_hi» = nought;
+  serial = 0;
+}

@@ -1,0 +1,25 @@
+-- `exports::inner::hullathan_inner_bank_same` hands on what the call says. Assumes nothing.
+use mathlib.Core.Path.{_≡_, ap, _∙_}
+use Rattle.ranges.specs.Settings.{standard}
+use Rattle.tracker.specs.Model as Tracked
+use Rattle.bank_model.specs.Steps as Steps
+use Rattle.bank.specs.declared.TimingBank.{TimingBank}
+use Rattle.bank.specs.View.{view, told}
+use Rattle.bank.specs.Parts.{Countable, Sturdy}
+use Rattle.plain.specs.Plain.{bankOf}
+use Rattle.exports.proofs.Banking.{back, read, bank-is, left-is}
+use borrow.Author.Needs.{needs}
+use Rattle.exports.proofs.inner.hullathan_inner_bank_same.Statement.{statement}
+use Rattle.exports.proofs.inner.hullathan_inner_bank_same.Tie as tie
+
+bank-of-requires : tie.Need-bank-of-requires
+bank-of-requires c κs = search needs
+
+plain-bank-requires : tie.Need-plain-bank-requires
+plain-bank-requires c κs = search needs
+
+returns : tie.Need-returns
+returns c = bank-is (c .plain-bank .ensures) ∙ c .before .before .bank-of .ensures .1
+
+pub hullathan-inner-bank-same-spec : {M : Type 1} → statement M
+hullathan-inner-bank-same-spec = tie.close (tie.spec bank-of-requires plain-bank-requires returns)

@@ -1,0 +1,16 @@
+-- `exports::of_bank::no_challenger` meets its contract. Assumes nothing.
+use mathlib.Core.Path.{_≡_, refl, ap, sym, _∙_}
+use mathlib.Core.Bool.{false}
+use Rattle.exports.proofs.Rivals.{a-challenger}
+use borrow.Author.Needs.{needs}
+use Rattle.exports.proofs.of_bank.no_challenger.Statement.{statement}
+use Rattle.exports.proofs.of_bank.no_challenger.Tie as tie
+
+no-hypothesis-requires : tie.Need-no-hypothesis-requires
+no-hypothesis-requires c κs = search needs
+
+returns : tie.Need-returns
+returns c = ap (a-challenger (c .before .args .code) false) (c .no-hypothesis .ensures)
+
+pub no-challenger-spec : {M : Type 1} → statement M
+no-challenger-spec = tie.close (tie.spec no-hypothesis-requires returns)

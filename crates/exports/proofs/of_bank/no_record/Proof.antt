@@ -1,0 +1,12 @@
+-- `exports::of_bank::no_record` meets its contract. Assumes nothing.
+use mathlib.Core.Path.{_≡_, refl, ap, sym, _∙_}
+use lib.Ieee.{ofBits}
+use Rattle.exports.proofs.of_bank.no_record.Statement.{statement}
+use Rattle.exports.proofs.of_bank.no_record.Tie as tie
+
+returns : tie.Need-returns
+unfolding ofBits
+returns c = refl
+
+pub no-record-spec : {M : Type 1} → statement M
+no-record-spec = tie.close (tie.spec returns)

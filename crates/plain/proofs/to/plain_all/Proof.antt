@@ -1,0 +1,71 @@
+-- `plain::to::plain_all` meets its contract. Assumes nothing.
+use mathlib.Core.Path.{_≡_}
+use Prim.Native.Nat.{_-_}
+use lib.ListN.{length}
+use borrow.Author.Needs.{needs}
+use Rattle.marks.proofs.Shifting.{unmapped}
+use Rattle.plain.specs.Plain.{plainHyp}
+use Rattle.plain.proofs.Filling.{Filling, fill-begins, fill-turns, fill-ends}
+use Rattle.plain.proofs.to.plain_all.Statement.{statement}
+use Rattle.plain.proofs.to.plain_all.Tie as tie
+
+abbrev Inv-loop : tie.InvT-loop
+Inv-loop b out₀ i₀ out i = Filling plainHyp (b .challengers) 8 out i
+
+abbrev μ-loop : tie.MeasureT-loop
+μ-loop b out₀ i₀ out i = 8 - i
+
+element-copy-out-first : tie.Need-element-copy-out-first Inv-loop μ-loop
+element-copy-out-first c = search needs
+
+plain-hypothesis-requires : tie.Need-plain-hypothesis-requires Inv-loop μ-loop
+plain-hypothesis-requires c κs = search needs
+
+loop-holds : tie.Need-loop-holds Inv-loop μ-loop
+loop-holds c = fill-begins plainHyp _ 8 _ (search (unmapped, needs)) (search needs)
+
+mul-h : tie.Need-mul-h Inv-loop μ-loop
+mul-h c = search needs
+
+element-copy-out-h : tie.Need-element-copy-out-h Inv-loop μ-loop
+element-copy-out-h c = search needs
+
+plain-hypothesis-requires-2 : tie.Need-plain-hypothesis-requires-2 Inv-loop μ-loop
+plain-hypothesis-requires-2 c κs = search needs
+
+mul-out : tie.Need-mul-out Inv-loop μ-loop
+mul-out c = search needs
+
+array-set-from-out : tie.Need-array-set-from-out Inv-loop μ-loop
+array-set-from-out c = search needs
+
+add-i : tie.Need-add-i Inv-loop μ-loop
+add-i c = search needs
+
+loop-less : tie.Need-loop-less Inv-loop μ-loop
+loop-less c = search needs
+
+loop-again : tie.Need-loop-again Inv-loop μ-loop
+loop-again c = fill-turns plainHyp _ 8 _ _ _ _ (c .before .before .loop-test .taken) (c .before .before .before .loop .inv) (c .plain-hypothesis2 .ensures)
+
+returns : tie.Need-returns Inv-loop μ-loop
+returns c = fill-ends plainHyp _ 8 _ _ (c .loop-test .left) (c .before .loop .inv)
+
+pub plain-all-spec : {M : Type 1} → statement M
+plain-all-spec =
+    tie.close
+    (tie.spec
+    Inv-loop
+    μ-loop
+    element-copy-out-first
+    plain-hypothesis-requires
+    loop-holds
+    mul-h
+    element-copy-out-h
+    plain-hypothesis-requires-2
+    mul-out
+    array-set-from-out
+    add-i
+    loop-less
+    loop-again
+    returns)

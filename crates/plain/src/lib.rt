@@ -1,0 +1,62 @@
+// A bank with numbers in place of enums, as a host in C or Rust holds it, and the way there and back.
+use bank::TimingBank;
+use bank_model::SwitchRecord;
+use tracker::SpeedTracker;
+
+pub mod from;
+pub mod to;
+
+// One challenger: where it came from is a number, 0 the bootstrap, 1 a streak, 2 a former primary, and the marks of protection left.
+#[repr(C)]
+pub struct PlainHypothesis {
+    pub tracker: SpeedTracker,
+    pub score: f32,
+    pub gap_score: f32,
+    pub lead_marks: u32,
+    pub age_marks: u32,
+    pub origin: u8,
+    pub retain_marks: u32,
+    pub reported: bool,
+    pub ln_lo: f32,
+    pub ln_hi: f32,
+    pub serial: u64,
+}
+
+// A bank: the fields of `TimingBank`.
+#[repr(C)]
+pub struct PlainBank {
+    pub width: usize,
+    pub switching: bool,
+    pub primary_score: f32,
+    pub primary_gap_score: f32,
+    pub challengers: [PlainHypothesis; 8],
+    pub challengers_len: usize,
+    pub streak: [f32; 4],
+    pub streak_len: usize,
+    pub streak_gaps: [f32; 4],
+    pub streak_gaps_len: usize,
+    pub has_side: bool,
+    pub streak_side: bool,
+    pub has_last_gap: bool,
+    pub last_gap: f32,
+    pub marks_seen: u64,
+    pub gaps_seen: u64,
+    pub has_pending: bool,
+    pub pending: usize,
+    pub log: [SwitchRecord; 16],
+    pub log_len: usize,
+    pub started: u64,
+}
+
+// A hypothesis that left: why is a number, 0 twin, 1 outscored, 2 aged, 3 replaced, 4 cleared.
+#[repr(C)]
+pub struct PlainDeparture {
+    pub serial: u64,
+    pub cause: u8,
+}
+
+// The bank of a plain form, where it is one.
+pub struct Unplain {
+    pub is: bool,
+    pub bank: TimingBank,
+}

@@ -1,0 +1,267 @@
+//! The list of calls that the program `bank_replay` runs: a watch with changes of speed, and lists made as short as they can be that
+//! reach every branch (`oracle replay bank` looks for them among the random ones).
+//!
+//! A line of the script is a letter, a digit and three fields of 8 hexadecimal digits, with blanks between. The letters: N new (the
+//! digit: switching; the width), M on_mark (the digit: live), G on_gap, L puts a mark on the list, R calls on_ready with the list, C
+//! clear, X take_switch, V reads (a place), A shows bank and primary whole; m, g, w, f, n call the primary, and I gives its serial;
+//! S, T, s set a part of the bank, of a challenger's tracker, of the primary.
+
+use super::tracker::tracker;
+use super::{count, flag, held, line, number, Files};
+use crate::hullathan::bank::{Bank, Departure, Hypothesis, Record};
+use crate::layers::bank::{random_case, spelled, Banks, Both, Call, Told, PARTS};
+use crate::layers::tracker as primary;
+use crate::random::Random;
+
+const STDIN: &str = include_str!("../../../crates/bank_replay/stdin");
+
+fn primary_line(call: &primary::Call) -> String {
+    match call {
+        primary::Call::Mark(d) => line('m', 0, *d, 0, 0),
+        primary::Call::Gap(d) => line('g', 0, *d, 0, 0),
+        primary::Call::Seed(w) => line('w', 0, *w, 0, 0),
+        primary::Call::Finish => line('f', 0, 0, 0, 0),
+        primary::Call::Set(part, i, v) => line('s', 0, *part as u32, u32::from(*i), *v),
+        primary::Call::Fresh => line('n', 0, 0, 0, 0),
+        _ => unreachable!("no list has this call of the primary"),
+    }
+}
+
+fn lines(call: &Call) -> String {
+    match call {
+        Call::New(width, switching) => line('N', u8::from(*switching), *width as u32, 0, 0),
+        Call::Mark(d, live) => line('M', u8::from(*live), *d, 0, 0),
+        Call::Gap(d) => line('G', 0, *d, 0, 0),
+        Call::Ready(marks) => {
+            let marks: String = marks.iter().map(|&m| line('L', 0, m, 0, 0)).collect();
+            marks + &line('R', 0, 0, 0, 0)
+        }
+        Call::Clear => line('C', 0, 0, 0, 0),
+        Call::Switch => line('X', 0, 0, 0, 0),
+        Call::Read(i) => line('V', 0, *i as u32, 0, 0),
+        Call::Show => line('A', 0, 0, 0, 0),
+        Call::Primary(c) => primary_line(c),
+        Call::Serial(n) => line('I', 0, (n >> 32) as u32, *n as u32, 0),
+        Call::Set(part, i, v) => line('S', 0, *part as u32, u32::from(*i), *v),
+        Call::SetTracker(k, part, i, v) => line('T', *k, *part as u32, u32::from(*i), *v),
+        Call::Hand(_) => unreachable!("a script sets parts"),
+    }
+}
+
+/// The calls of a script.
+fn parse(script: &str) -> Vec<Call> {
+    let mut marks = Vec::new();
+    let mut calls = Vec::new();
+    for l in script.lines() {
+        let field = |at: usize| u32::from_str_radix(&l[at..at + 8], 16).expect("8 digits");
+        let (a, b, c, digit) = (field(4), field(13), field(22), l.as_bytes()[2] - b'0');
+        let part = |a: u32| primary::PARTS[a as usize];
+        calls.push(match l.as_bytes()[0] {
+            b'N' => Call::New(a as usize, digit == 1),
+            b'M' => Call::Mark(a, digit == 1),
+            b'G' => Call::Gap(a),
+            b'L' => {
+                marks.push(a);
+                continue;
+            }
+            b'R' => Call::Ready(std::mem::take(&mut marks)),
+            b'C' => Call::Clear,
+            b'X' => Call::Switch,
+            b'V' => Call::Read(a as usize),
+            b'A' => Call::Show,
+            b'm' => Call::Primary(primary::Call::Mark(a)),
+            b'g' => Call::Primary(primary::Call::Gap(a)),
+            b'w' => Call::Primary(primary::Call::Seed(a)),
+            b'f' => Call::Primary(primary::Call::Finish),
+            b's' => Call::Primary(primary::Call::Set(part(a), b as u8, c)),
+            b'n' => Call::Primary(primary::Call::Fresh),
+            b'I' => Call::Serial(u64::from(a) << 32 | u64::from(b)),
+            b'S' => Call::Set(PARTS[a as usize], b as u8, c),
+            _ => Call::SetTracker(digit, part(a), b as u8, c),
+        });
+    }
+    calls
+}
+
+fn long(n: u64) -> String {
+    format!(" {:08X} {:08X}", n >> 32, n as u32)
+}
+
+fn code(n: u8) -> String {
+    format!(" {n:02X}")
+}
+
+fn hypothesis(h: &Hypothesis) -> String {
+    let mut s = long(h.serial) + &number(h.score) + &number(h.gap_score);
+    s += &(count(h.lead_marks as usize) + &count(h.age_marks as usize) + &code(h.origin));
+    if h.origin == 2 {
+        s += &count(h.retain_marks as usize);
+    }
+    s + &flag(h.reported) + &number(h.ln_lo) + &number(h.ln_hi) + &tracker(&h.tracker)
+}
+
+fn record(r: &Record) -> String {
+    long(r.mark_index) + &number(r.from_dit_ms) + &number(r.to_dit_ms) + &flag(r.applied)
+}
+
+/// What changes most.
+fn short(b: &Bank) -> String {
+    let mut s = count(b.challengers_len) + &number(b.primary_score) + &number(b.primary_gap_score);
+    s += &(long(b.marks_seen) + &long(b.gaps_seen) + &flag(b.has_pending));
+    if b.has_pending {
+        s += &count(b.pending);
+    }
+    s + &long(b.started)
+}
+
+/// A bank: its parts in order. Of a count above its capacity all places are shown.
+fn whole(b: &Bank) -> String {
+    let mut s = count(b.width) + &flag(b.switching) + &short(b) + &count(b.challengers_len);
+    s.extend(b.challengers.iter().take(b.challengers_len).map(hypothesis));
+    s += &count(b.streak_len);
+    s.extend(b.streak.iter().take(b.streak_len).map(|&m| number(m)));
+    s += &count(b.streak_gaps_len);
+    s.extend(
+        b.streak_gaps
+            .iter()
+            .take(b.streak_gaps_len)
+            .map(|&g| number(g)),
+    );
+    s += &flag(b.has_side);
+    if b.has_side {
+        s += &flag(b.streak_side);
+    }
+    s += &(held(b.has_last_gap, b.last_gap) + &count(b.log_len));
+    s.extend(b.log.iter().take(b.log_len).map(record));
+    s
+}
+
+fn left(gone: &[Departure]) -> String {
+    let each = gone.iter().map(|d| long(d.serial) + &code(d.cause));
+    count(gone.len()) + &each.collect::<String>()
+}
+
+/// The line that answers a call; what is set has none.
+fn answer(both: &mut Both, call: &Call) -> String {
+    let a = both.step(call).expect("the library and the Rust agree");
+    let letter = &lines(call)[..1];
+    let end = short(&both.ours);
+    match (call, a.told) {
+        (Call::Show, _) => {
+            let all = whole(&both.ours) + &long(both.serial) + &tracker(&both.primary.ours);
+            format!("{letter}{all}\n")
+        }
+        (Call::Mark(..) | Call::Clear, _) => {
+            format!("{letter}{}{}{end}\n", code(a.code), left(&a.left))
+        }
+        (Call::Ready(_), _) => format!("R{}{}{end}\n", code(a.code), left(&a.left)),
+        (Call::New(..) | Call::Gap(_), _) => format!("{letter}{}{end}\n", code(a.code)),
+        (Call::Switch, Told::Flag(yes)) => {
+            let said = code(a.code) + &flag(yes) + &long(both.serial);
+            format!("X{said}{end}\n")
+        }
+        (Call::Read(_), Told::Readings(r)) => {
+            let counts = r.counts.map(|(c, n)| code(c) + &long(n)).concat();
+            let there = r.challenger.1.as_ref().map(hypothesis);
+            let entry = r.record.1.as_ref().map(record);
+            let each =
+                |c: u8, x: Option<String>| code(c) + &flag(x.is_some()) + &x.unwrap_or_default();
+            let places = each(r.challenger.0, there) + &each(r.record.0, entry);
+            format!("V{counts}{places}\n")
+        }
+        (Call::Primary(primary::Call::Set(..) | primary::Call::Fresh), _) => String::new(),
+        (Call::Primary(_), Told::Primary(p)) => match p.told {
+            primary::Told::Flag(yes) => format!("{letter}{}{}\n", code(p.code), flag(yes)),
+            _ => format!("{letter}{}\n", code(p.code)),
+        },
+        _ => String::new(),
+    }
+}
+
+/// What a script must print.
+fn answers(calls: &[Call]) -> String {
+    let mut both = Both::new();
+    calls.iter().map(|c| answer(&mut both, c)).collect()
+}
+
+/// The list as it stands in the repository.
+pub fn script() -> Vec<Call> {
+    parse(STDIN)
+}
+
+pub fn files() -> Files {
+    let calls = choose();
+    Files {
+        stdin: calls.iter().map(lines).collect(),
+        stdout: answers(&calls),
+    }
+}
+
+/// The calls that show all and begin anew.
+fn anew() -> [Call; 4] {
+    [
+        Call::Show,
+        Call::New(1, false),
+        Call::Serial(0),
+        Call::Primary(primary::Call::Fresh),
+    ]
+}
+
+/// A list that reaches every branch, and shows all where a part of it ends.
+fn choose() -> Vec<Call> {
+    let random = |random: &mut Random| spelled(random_case(random));
+    let mut calls = super::choose::<Banks, Call>(by_hand(), random, &anew(), 420);
+    calls.push(Call::Show);
+    calls
+}
+
+/// A watch: text at one speed, three times as slow, and as before.
+fn by_hand() -> Vec<Call> {
+    let mut s = vec![Call::New(8, true), Call::Read(0)];
+    let mut random = Random::new(3);
+    for i in 0..60 {
+        let dit = if (20..40).contains(&i) { 144.0 } else { 48.0 };
+        let units = if random.below(2) == 0 { 1.0 } else { 3.1 };
+        let jitter = 0.9 + 0.2 * random.fraction() as f32;
+        let mark = (dit * units * jitter).to_bits();
+        s.push(Call::Primary(primary::Call::Mark(mark)));
+        if i > 4 {
+            s.push(Call::Mark(mark, true));
+            s.push(Call::Switch);
+        } else if i == 4 {
+            let first = s.iter().filter_map(|c| match c {
+                Call::Primary(primary::Call::Mark(d)) => Some(*d),
+                _ => None,
+            });
+            let first = first.collect();
+            s.push(Call::Ready(first));
+        }
+        s.push(Call::Gap((dit * jitter).to_bits()));
+    }
+    s.extend([Call::Read(0), Call::Show, Call::Clear]);
+    s
+}
+
+#[cfg(test)]
+mod tests {
+    use super::*;
+    use crate::compare::Layer;
+    use crate::replay::reaches;
+
+    /// What stands in the repository is what the Rust answers to the list there.
+    #[test]
+    fn answers_are_as_written() {
+        let calls = script();
+        assert!(answers(&calls) == include_str!("../../../crates/bank_replay/stdout"));
+        assert!(calls.iter().map(lines).collect::<String>() == STDIN);
+    }
+
+    /// The list alone reaches every branch.
+    #[test]
+    fn every_branch() {
+        let reached = reaches::<Banks>(&script());
+        for (i, b) in Banks::reached().iter().enumerate() {
+            assert!(reached.contains(&i), "not reached: {}", b.name);
+        }
+    }
+}
