@@ -30,7 +30,7 @@ use Rattle.bank.specs.View.{view, told}
 use Rattle.bank.specs.Parts.{widest, Sturdy, Came, Left}
 use Rattle.bank.specs.Sound.{sound}
 use Rattle.bank.specs.Switching.{Took}
-use Rattle.bank.specs.Answers.{Shown, shown, nothing, barred, showing, bankThen, widthRefusal, Leaves, Started, Hears, Answers, Switches}
+use Rattle.bank.specs.Answers.{Shown, shown, nothing, barred, showing, ofChallenger, toldOf, bankThen, widthRefusal, Leaves, Started, Hears, Answers, Switches}
 use Rattle.bank.proofs.Coming.{elem}
 use Rattle.bank.proofs.Sounding.{sturdy-sound}
 
@@ -82,6 +82,11 @@ module _ {A : Type 0} where
 -- ---- the answer that tells of a challenger, from its place and what stands there
 pub told-of : (r : Challenger) (p : Place) (h : TimingHypothesis) → (r .place ≡ p) × (r .hypothesis ≡ h) → r ≡ record { place = p; hypothesis = h }
 told-of r p h k = ap (λ (x : Place). record { place = x; hypothesis = r .hypothesis }) (k .0) ∙ ap (λ (x : TimingHypothesis). record { place = p; hypothesis = x }) (k .1)
+
+pub of-told : (x : Shown TimingHypothesis) → ofChallenger (toldOf x) ≡ x
+of-told (shown h) = refl
+of-told nothing = refl
+of-told (barred n) = refl
 
 -- ---- a start
 pub begins : (w : ℕ) (s : Bool) (r : TimingBank) → w ≤ widest → (view r ≡ Steps.freshBank w s) × Sturdy r → Started standard w s Done r

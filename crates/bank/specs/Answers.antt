@@ -62,6 +62,15 @@ vacant = record {
   serial = 0;
 }
 
+abbrev pub placed : Place → TimingHypothesis → Shown TimingHypothesis
+placed Places.Held h = shown h
+placed Places.Absent h = nothing
+placed (Places.Refused n) h = barred n
+
+-- what such an answer tells, and the answer that tells it
+abbrev pub ofChallenger : Challenger → Shown TimingHypothesis
+ofChallenger c = placed (c .place) (c .hypothesis)
+
 abbrev pub toldOf : Shown TimingHypothesis → Challenger
 toldOf (shown h) = record { place = Places.Held; hypothesis = h }
 toldOf nothing = record { place = Places.Absent; hypothesis = vacant }

@@ -7,7 +7,8 @@ use Rattle.bank.specs.declared.TimingBank.{TimingBank}
 use Rattle.bank.specs.View.{view}
 use Prim.Native.Nat.{ℕ}
 use lib.ListN.{getElem?, take}
-use Rattle.bank.specs.Answers.{showing}
+use Rattle.bank.specs.Answers.{bankThen, showing, ofChallenger}
+use Rattle.bank.proofs.Answering.{of-told}
 use Rattle.plain.specs.Plain.{bankOf}
 use Rattle.exports.specs.Bank.{challenged}
 use Rattle.exports.proofs.Rivals.{told-by, told-not}
@@ -28,7 +29,7 @@ returns : tie.Need-returns
 returns c =
     let a = c .before .before .before .before .before .args in
     let u = c .before .before .before .before .bank-of in
-    told-by (a .b) _ (u .ensures .1) (sym (u .ensures .0) ∙ c .before .before .before .if1 .taken) (λ (n : ℕ) (z : TimingBank). challenged (showing n (getElem? (take (z .«challengers_len») (z .challengers)) (a .i)))) _ (c .challenger2 .ensures ∙ ap challenged (c .before .challenger .ensures))
+    told-by (a .b) _ (u .ensures .1) (sym (u .ensures .0) ∙ c .before .before .before .if1 .taken) (λ (n : ℕ) (z : TimingBank). challenged (showing n (getElem? (take (z .«challengers_len») (z .challengers)) (a .i)))) _ (c .challenger2 .ensures ∙ ap challenged (ap ofChallenger (c .before .challenger .ensures) ∙ of-told (showing (bankThen standard (u .result .bank) 0) (getElem? (take (u .result .bank .«challengers_len») (u .result .bank .challengers)) (a .i)))))
 
 no-challenger-requires : tie.Need-no-challenger-requires
 no-challenger-requires c κs = search needs
