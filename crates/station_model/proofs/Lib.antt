@@ -1,3 +1,5 @@
 pub mod Lists
 pub mod Books
 pub mod Fair
+pub mod Starts
+pub mod Ledger
