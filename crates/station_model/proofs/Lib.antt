@@ -6,3 +6,5 @@ pub mod Ledger
 pub mod Picks
 pub mod Every
 pub mod Turns
+pub mod Trackers
+pub mod Sane

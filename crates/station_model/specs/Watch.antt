@@ -34,18 +34,18 @@ abbrev pub eventOf : Call → Event
 eventOf c = c .event
 
 -- the number that an event carries is a value of f32, as each number of a program is
-abbrev pub Held : Event → Type 0
-Held (Mark d live) = T (fits binary32 d)
-Held (Gap d) = T (fits binary32 d)
-Held Finish = Unit {0}
-Held (Seed v) = T (fits binary32 v)
-Held (Hint r) = T (fits binary32 r)
-Held Clear = Unit {0}
-Held Switch = Unit {0}
+abbrev pub Carries : Event → Type 0
+Carries (Mark d live) = T (fits binary32 d)
+Carries (Gap d) = T (fits binary32 d)
+Carries Finish = Unit {0}
+Carries (Seed v) = T (fits binary32 v)
+Carries (Hint r) = T (fits binary32 r)
+Carries Clear = Unit {0}
+Carries Switch = Unit {0}
 
-unfoldable pub AllHeld : List Event → Type 0
-AllHeld [] = Unit {0}
-AllHeld (e ∷ earlier) = Held e × AllHeld earlier
+unfoldable pub AllCarry : List Event → Type 0
+AllCarry [] = Unit {0}
+AllCarry (e ∷ earlier) = Carries e × AllCarry earlier
 
 -- ---- what the definitions give from a start and a list of events alone
 
@@ -246,7 +246,7 @@ pub record Watch (k : Settings) (width : ℕ) (switching : Bool) (calls : List C
 
 -- the form in which a function that hands out a fresh station can promise it
 pub record Promised (k : Settings) (width : ℕ) (switching : Bool) : Type 0 where
-  pub all : (events : List Event) → AllHeld events → Watch k width switching (callsOf k (fresh width switching) events) (stationAfter k (fresh width switching) events)
+  pub all : (events : List Event) → AllCarry events → Watch k width switching (callsOf k (fresh width switching) events) (stationAfter k (fresh width switching) events)
 
 -- ---- the program
 
@@ -261,7 +261,7 @@ pub record Ran (S R : Type 0) : Type 0 where
 module _ {S R : Type 0} (station : R → S) (Called : S → Event → R → Type 0) where
   unfoldable pub RanFrom : S → List (Ran S R) → S → Type 0
   RanFrom start [] now = now ≡ start
-  RanFrom start (c ∷ earlier) now = RanFrom start earlier (c .before) × (Held (c .event) × Called (c .before) (c .event) (c .returned)) × (now ≡ station (c .returned))
+  RanFrom start (c ∷ earlier) now = RanFrom start earlier (c .before) × (Carries (c .event) × Called (c .before) (c .event) (c .returned)) × (now ≡ station (c .returned))
 
 -- what the contract has to say, on the views
 pub record Stepped (k : Settings) (s : Station) (e : Event) (t : Station) (a : Answer) : Type 0 where
