@@ -8,3 +8,4 @@ pub mod Every
 pub mod Turns
 pub mod Trackers
 pub mod Sane
+pub mod Memory
