@@ -9,3 +9,4 @@ pub mod Turns
 pub mod Trackers
 pub mod Sane
 pub mod Memory
+pub mod Recall

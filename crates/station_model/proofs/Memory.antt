@@ -51,6 +51,44 @@ two-led true true n = le-leb 2 (suc (suc n)) (omega arith)
 two-led true false n = refl
 two-led false y n = refl
 
+ind-zero : (b : Bool) → ind b ≡ 0 → b ≡ false
+ind-zero true e = absurd (omega arith)
+ind-zero false e = refl
+
+this-one : (x y z : Bool) → x ≡ true → z ≡ false → (x && y || z) ≡ y
+this-one x true z p q = rw p
+this-one x false z p q = rw (p, q)
+
+not-this : (x y z : Bool) → x ≡ false → (x && y || z) ≡ z
+not-this x y z p = rw p
+
+-- ---- marks and ages of a list of calls with one call more
+
+pub marks-quiet : (c : Call) (calls : List Call) → heard c ≡ false → marksHeard (c ∷ calls) ≡ marksHeard calls
+unfolding marksHeard
+marks-quiet c calls q = ap (λ (x : Bool). addIf x (c .after) (marksHeard calls)) q
+
+pub marks-heard : (c : Call) (calls : List Call) → heard c ≡ true → marksHeard (c ∷ calls) ≡ c .after ∷ marksHeard calls
+unfolding marksHeard
+marks-heard c calls q = ap (λ (x : Bool). addIf x (c .after) (marksHeard calls)) q
+
+age-old : (j : ℕ) (c : Call) (calls : List Call) → 1 ≤ among j (c .before .bank .challengers) → age j (c ∷ calls) ≡ ind (heard c) + age j calls
+unfolding age
+age-old j c calls h = ap (λ (x : Bool). cond x (ind (heard c) + age j calls) 0) (le-leb 1 (among j (c .before .bank .challengers)) h)
+
+age-new : (j : ℕ) (c : Call) (calls : List Call) → among j (c .before .bank .challengers) ≡ 0 → age j (c ∷ calls) ≡ 0
+unfolding age
+age-new j c calls h = ap (λ (x : Bool). cond x (ind (heard c) + age j calls) 0) (lt-leb 1 (among j (c .before .bank .challengers)) (omega arith))
+
+-- ---- who is where
+
+abbrev pub serialAt : Option ℕ → List Hyp → Option ℕ
+serialAt o l = serialOf (at o l)
+
+-- no serial stands in two places
+abbrev pub Unique : Station → Type 0
+Unique s = (j : ℕ) → ind (eqb j (s .serial)) + (among j (s .bank .challengers) + ind (ltb (s .bank .started) j)) ≤ 1
+
 module _ (k : Settings) where
   -- a serial led at so many of the last marks, one after the other
   unfoldable pub streakOf : ℕ → List Station → ℕ
@@ -71,17 +109,6 @@ module _ (k : Settings) where
       go below true q = absurd (omega (arith, ap ind q))
       go below false q = below
 
-  ind-zero : (b : Bool) → ind b ≡ 0 → b ≡ false
-  ind-zero true e = absurd (omega arith)
-  ind-zero false e = refl
-
-  this-one : (x y z : Bool) → x ≡ true → z ≡ false → (x && y || z) ≡ y
-  this-one x true z p q = rw p
-  this-one x false z p q = rw (p, q)
-
-  not-this : (x y z : Bool) → x ≡ false → (x && y || z) ≡ z
-  not-this x y z p = rw p
-
   one-ahead : (h : Hyp) (p : Float) (l : List Hyp) → List·Memᴰ h l → among (h .serial) l ≤ 1 → aheadAmong k (h .serial) p l ≡ ahead k (h .score) p
   unfolding among aheadAmong
   one-ahead h p (x ∷ l) (List·Memᴰ·head e) u =
@@ -91,24 +118,6 @@ module _ (k : Settings) where
   one-ahead h p (x ∷ l) (List·Memᴰ·tail m) u =
       not-this (eqb (h .serial) (x .serial)) (ahead k (x .score) p) (aheadAmong k (h .serial) p l) (ind-zero (eqb (h .serial) (x .serial)) (omega (arith, in-among h l m)))
       ∙ one-ahead h p l m (omega arith)
-
-  -- ---- marks and ages of a list of calls with one call more
-
-  pub marks-quiet : (c : Call) (calls : List Call) → heard c ≡ false → marksHeard (c ∷ calls) ≡ marksHeard calls
-  unfolding marksHeard
-  marks-quiet c calls q = ap (λ (x : Bool). addIf x (c .after) (marksHeard calls)) q
-
-  pub marks-heard : (c : Call) (calls : List Call) → heard c ≡ true → marksHeard (c ∷ calls) ≡ c .after ∷ marksHeard calls
-  unfolding marksHeard
-  marks-heard c calls q = ap (λ (x : Bool). addIf x (c .after) (marksHeard calls)) q
-
-  age-old : (j : ℕ) (c : Call) (calls : List Call) → 1 ≤ among j (c .before .bank .challengers) → age j (c ∷ calls) ≡ ind (heard c) + age j calls
-  unfolding age
-  age-old j c calls h = ap (λ (x : Bool). cond x (ind (heard c) + age j calls) 0) (le-leb 1 (among j (c .before .bank .challengers)) h)
-
-  age-new : (j : ℕ) (c : Call) (calls : List Call) → among j (c .before .bank .challengers) ≡ 0 → age j (c ∷ calls) ≡ 0
-  unfolding age
-  age-new j c calls h = ap (λ (x : Bool). cond x (ind (heard c) + age j calls) 0) (lt-leb 1 (among j (c .before .bank .challengers)) (omega arith))
 
   -- ---- what is known of one challenger
 
@@ -157,9 +166,6 @@ module _ (k : Settings) where
 
   -- ---- the choice
 
-  abbrev pub serialAt : Option ℕ → List Hyp → Option ℕ
-  serialAt o l = serialOf (at o l)
-
   meets-qualifies : (calls : List Call) (c : Call) (h : Hyp) → heard c ≡ true → Known (c ∷ calls) h → qualifies (c .after .bank .gap-score) h ≡ meets k c calls h
   meets-qualifies calls c h q j =
       let a : leb 2 (h .lead) ≡ leadsAt k (h .serial) (c .after) && ledAtLast k (h .serial) (marksHeard calls) =
@@ -190,10 +196,6 @@ module _ (k : Settings) where
     -- a serial that is not given out yet did not lead at the last mark, nor did the primary's if a choice is pending
     pub clean : (j : ℕ) → s .bank .started < j → streakOf j (marksHeard calls) ≡ 0
     pub primary : (i : ℕ) → s .bank .pending ≡ some i → streakOf (s .serial) (marksHeard calls) ≡ 0
-
-  -- no serial stands in two places
-  abbrev pub Unique : Station → Type 0
-  Unique s = (j : ℕ) → ind (eqb j (s .serial)) + (among j (s .bank .challengers) + ind (ltb (s .bank .started) j)) ≤ 1
 
   pub free-next : (calls : List Call) (s : Station) → Spare (s .bank) → Unique s → Memory calls s → Free calls s (following (s .bank .started))
   free-next calls s h u m =
