@@ -10,3 +10,4 @@ pub mod Trackers
 pub mod Sane
 pub mod Memory
 pub mod Recall
+pub mod Rule
