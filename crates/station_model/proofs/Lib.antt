@@ -11,3 +11,4 @@ pub mod Sane
 pub mod Memory
 pub mod Recall
 pub mod Rule
+pub mod Whole
