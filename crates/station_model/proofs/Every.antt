@@ -26,6 +26,10 @@ unfolding staying
 in-staying f [] n = n
 in-staying f (h ∷ l) n = in-stayIf (f h) h (staying f l) l (λ z k. in-staying f l k) n
 
+-- the evidence after a live mark
+abbrev pub heardOf : Settings → Bank → Tracker → Float → Bool → Evidence
+heardOf k b p d live = streakOn (scored k b p d live .evidence) (high p d) d (b .evidence .last-gap)
+
 module _ (P : Hyp → Type 0) where
   abbrev pub Every : List Hyp → Type 0
   Every l = (h : Hyp) → List·Memᴰ h l → P h
@@ -70,16 +74,12 @@ module _ (P : Hyp → Type 0) where
         (λ x. every-spawnedIf (withEvidence c (emptied v)) lo hi Streak (candidateAt k lo hi v) all (one x))
 
     module _ (b : Bank) (p : Tracker) (d : Float) (live : Bool) where
-      -- the evidence after a live mark
-      abbrev pub heardOf : Evidence
-      heardOf = streakOn (scored k b p d live .evidence) (high p d) d (b .evidence .last-gap)
-
       abbrev pub Candidate : Type 0
-      Candidate = short heardOf ≡ false → (u : Tracker) → candidate k p heardOf ≡ some u → P (newborn (scored k b p d live) u Streak)
+      Candidate = short (heardOf k b p d live) ≡ false → (u : Tracker) → candidate k p (heardOf k b p d live) ≡ some u → P (newborn (scored k b p d live) u Streak)
 
       every-marked : Every (map (marked k d live) (b .challengers)) → Candidate → Every (markedTold k b p d live .bank .challengers)
       unfolding streakAt
-      every-marked all one = by-cond (λ (u : Told). Every (u .bank .challengers)) live (λ x. every-streakEnd (scored k b p d live) (lnDit p) (lnDah p) heardOf all one) (λ x. all)
+      every-marked all one = by-cond (λ (u : Told). Every (u .bank .challengers)) live (λ x. every-streakEnd (scored k b p d live) (lnDit p) (lnDah p) (heardOf k b p d live) all one) (λ x. all)
 
       -- before the leads are counted
       pub every-mark : Every (map (marked k d live) (b .challengers)) → Candidate → Every (andThen (markedTold k b p d live) (pruned k p) .bank .challengers)

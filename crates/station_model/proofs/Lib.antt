@@ -12,3 +12,5 @@ pub mod Memory
 pub mod Recall
 pub mod Rule
 pub mod Whole
+pub mod Ordered
+pub mod Counted

@@ -27,7 +27,7 @@ use Rattle.station_model.specs.Station.{Station, Act, ready, fresh, lear
 use Rattle.station_model.specs.Watch.{Carries}
 use Rattle.station_model.proofs.Lists.{by-cond, no, and-true, in-at}
 use Rattle.station_model.proofs.Picks.{picks-inside}
-use Rattle.station_model.proofs.Every.{Every, every-map, every-set, every-ready, every-mark, every-gap}
+use Rattle.station_model.proofs.Every.{heardOf, Every, every-map, every-set, every-ready, every-mark, every-gap}
 use Rattle.station_model.proofs.Ledger.{unrefused}
 use Rattle.station_model.proofs.Trackers.{Heard, HeardOr, Evident, evident-none, evident-gap, evident-empty, evident-on, gap-same, hint-same, hint-recent, mark-recent, begun-recent, begin-unready, Fine, Able, able-settled, able-mark, able-gap, fine-mark, fine-gap, other-able, candidate-able, able-of}
 
@@ -97,34 +97,43 @@ module _ (k : Settings) where
 
   -- ---- a mark that the bank hears
 
-  -- its setup stays, its marks are n more, its evidence is sound
+  -- its setup stays, and it has counted n marks
   pub record Hears (b : Bank) (n : ℕ) (c : Bank) : Type 0 where
     pub setup : Setup b c
     pub marks : c .marks ≡ n
-    pub evident : Evident (c .evidence)
 
-  hears-streakEnd : (b : Bank) (lo hi : Float) (v : Evidence) → Evident v → Hears b (b .marks) (streakEnd k b lo hi v .bank)
-  hears-streakEnd b lo hi v e =
-      by-cond (λ (u : Told). Hears b (b .marks) (u .bank)) (short v) (λ x. record { setup = record { width = refl; switching = refl }; marks = refl; evident = e })
-      (λ x. let s = spawns-if (withEvidence b (emptied v)) lo hi Streak (candidateAt k lo hi v) in
-      record { setup = record { width = s .still .setup .width; switching = s .still .setup .switching }; marks = s .still .marks; evident = subst Evident (sym (s .evidence)) (evident-empty v (v .side) e) })
+  spawns-streak : (b : Bank) (lo hi : Float) (v : Evidence) → Spawns (withEvidence b (emptied v)) (spawnedIfAt (withEvidence b (emptied v)) lo hi Streak (candidateAt k lo hi v) .bank)
+  spawns-streak b lo hi v = spawns-if (withEvidence b (emptied v)) lo hi Streak (candidateAt k lo hi v)
 
-  module _ (b : Bank) (p : Tracker) (d : Float) (live : Bool) (h : Heard d) (e : Evident (b .evidence)) where
-    -- the evidence after the mark
-    pub evident-heard : Evident (streakOn (scored k b p d live .evidence) (high p d) d (b .evidence .last-gap))
-    evident-heard = evident-on (scored k b p d live .evidence) (evident-gap (b .evidence) none e tt) (high p d) d h (b .evidence .last-gap) (e .last)
+  hears-streakEnd : (b : Bank) (lo hi : Float) (v : Evidence) → Hears b (b .marks) (streakEnd k b lo hi v .bank)
+  hears-streakEnd b lo hi v =
+      by-cond (λ (u : Told). Hears b (b .marks) (u .bank)) (short v) (λ x. record { setup = record { width = refl; switching = refl }; marks = refl })
+      (λ x. let s = spawns-streak b lo hi v .still in record { setup = record { width = s .setup .width; switching = s .setup .switching }; marks = s .marks })
 
+  evident-streakEnd : (b : Bank) (lo hi : Float) (v : Evidence) → Evident v → Evident (streakEnd k b lo hi v .bank .evidence)
+  evident-streakEnd b lo hi v e =
+      by-cond (λ (u : Told). Evident (u .bank .evidence)) (short v) (λ x. e) (λ x. subst Evident (sym (spawns-streak b lo hi v .evidence)) (evident-empty v (v .side) e))
+
+  module _ (b : Bank) (p : Tracker) (d : Float) (live : Bool) where
     hears-marked : Hears b (suc (b .marks)) (markedTold k b p d live .bank)
     unfolding streakAt
     hears-marked =
         by-cond (λ (u : Told). Hears b (suc (b .marks)) (u .bank)) live
-        (λ x. let s = hears-streakEnd (scored k b p d live) (lnDit p) (lnDah p) (streakOn (scored k b p d live .evidence) (high p d) d (b .evidence .last-gap)) evident-heard in
-        record { setup = record { width = s .setup .width; switching = s .setup .switching }; marks = omega (arith, s .marks); evident = s .evident })
-        (λ x. record { setup = record { width = refl; switching = refl }; marks = omega arith; evident = evident-gap (b .evidence) none e tt })
+        (λ x. let s = hears-streakEnd (scored k b p d live) (lnDit p) (lnDah p) (heardOf k b p d live) in record { setup = record { width = s .setup .width; switching = s .setup .switching }; marks = omega (arith, s .marks) })
+        (λ x. record { setup = record { width = refl; switching = refl }; marks = omega arith })
 
     pub hears-mark : Hears b (suc (b .marks)) (heardMark k b p d live .bank)
     unfolding qualified prunedAt
-    hears-mark = let s = hears-marked in record { setup = record { width = s .setup .width; switching = s .setup .switching }; marks = s .marks; evident = s .evident }
+    hears-mark = let s = hears-marked in record { setup = record { width = s .setup .width; switching = s .setup .switching }; marks = s .marks }
+
+    module _ (h : Heard d) (e : Evident (b .evidence)) where
+      evident-heard : Evident (heardOf k b p d live)
+      evident-heard = evident-on (scored k b p d live .evidence) (evident-gap (b .evidence) none e tt) (high p d) d h (b .evidence .last-gap) (e .last)
+
+      evident-mark : Evident (heardMark k b p d live .bank .evidence)
+      unfolding qualified prunedAt streakAt
+      evident-mark =
+          by-cond (λ (u : Told). Evident (u .bank .evidence)) live (λ x. evident-streakEnd (scored k b p d live) (lnDit p) (lnDah p) (heardOf k b p d live) evident-heard) (λ x. evident-gap (b .evidence) none e tt)
 
   evident-on-gap : (b : Bank) (p : Tracker) (d : Float) → Heard d → Evident (b .evidence) → Evident (onGap k b p d .evidence)
   unfolding onGap
@@ -199,14 +208,14 @@ module _ (k : Settings) (G : Good k) (H : Held k) where
     unfolding onMark qualified
     sane-mark p q b d live h s r f =
         by-cond (λ (u : Told). Sane b₀ q (u .bank)) (hears b q)
-        (λ e. let w = hears-mark k b q d live h (s .evident) in let o = and-true (on b) (ready q) e in record {
+        (λ e. let w = hears-mark k b q d live in let o = and-true (on b) (ready q) e in record {
           setup = setup-then b₀ b _ (s .setup) (w .setup);
           off = λ x. no (sym (o .0) ∙ ap (leb 2) (sym (w .setup .width)) ∙ x);
           unready = λ x. no (sym (o .1) ∙ x);
           inside = picks-inside _ _;
           primary = f;
           able = able-heard b q d live h (s .evident) (s .able);
-          evident = w .evident;
+          evident = evident-mark k b q d live h (s .evident);
         })
         (λ e. sane-same p q b s r f)
 
