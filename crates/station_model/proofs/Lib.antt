@@ -14,3 +14,4 @@ pub mod Rule
 pub mod Whole
 pub mod Ordered
 pub mod Counted
+pub mod Examples
