@@ -5,11 +5,12 @@ use mathlib.Core.List.{List, [], _∷_, map}
 use mathlib.Core.Option.{Option, none, some}
 use Prim.Native.Nat.{ℕ}
 use lib.IntN.{pos}
-use lib.Ieee.{Float, binary32, ofInt, ofBits}
+use lib.Ieee.{Float, inf, binary32, ofInt, ofBits}
 use Rattle.ranges.specs.Settings.{standard}
 use Rattle.bank_model.specs.Model.{Hyp}
 use Rattle.station_model.specs.declared.Event.{Event}
 use Rattle.station_model.specs.declared.Event.the-variants.{Mark, Gap, Finish, Seed, Clear, Switch}
+use Rattle.station_model.specs.declared.Code.the-variants.{Refused}
 use Rattle.station_model.specs.Station.{Station, number, fresh}
 use Rattle.station_model.specs.Watch.{stationAfter, answerTo, callsOf, due}
 
@@ -20,6 +21,9 @@ whole n = ofInt binary32 (pos n)
 -- a live mark of n milliseconds
 abbrev mark : ℕ → Event
 mark n = Mark (whole n) true
+
+abbrev silent : Event
+silent = Mark (whole 100) false
 
 -- A switch call after a list of events, the latest first, on a fresh station: the leads of the challengers before it, whom the rule names, the call's code, the primary's serial after it.
 pub record Example : Type 0 where
@@ -69,6 +73,8 @@ worked =
     ∷ record { width = 2; switching = true; earlier = Clear ∷ leading; leads = []; names = none; code = 3; serial = 0 }
     -- switching off: the bank only observes
     ∷ record { width = 2; switching = false; earlier = leading; leads = 2 ∷ []; names = none; code = 3; serial = 0 }
+    -- four marks that are not live make no rival
+    ∷ record { width = 2; switching = true; earlier = mark 300 ∷ mark 300 ∷ mark 300 ∷ Gap (whole 100) ∷ silent ∷ silent ∷ silent ∷ silent ∷ Seed (whole 60) ∷ []; leads = []; names = none; code = 3; serial = 0 }
     -- width 1: the bank is off
     ∷ record { width = 1; switching = true; earlier = leading; leads = []; names = none; code = 3; serial = 0 }
     ∷ []
@@ -91,3 +97,22 @@ pub record Printed : Type 0 where
   pub dah : stationAfter standard start (Switch ∷ Finish ∷ marks) .primary .pair .hi ≡ ofBits binary32 0x4316_0000
   pub serial : stationAfter standard start (Switch ∷ Finish ∷ marks) .serial ≡ 0
   pub alone : stationAfter standard start (Switch ∷ Finish ∷ marks) .bank .challengers ≡ []
+
+-- ---- other answers of a fresh station
+
+pub record Answers : Type 0 where
+  -- refusals come before the event's meaning
+  pub endless : answerTo standard start (Mark (inf false) true) [] .code ≡ Refused 5
+  pub empty : answerTo standard start (Gap (whole 0)) [] .code ≡ Refused 6
+  pub longest : answerTo standard start (Gap (whole 262145)) [] .code ≡ Refused 7
+  pub still : answerTo standard start (Seed (whole 0)) [] .code ≡ Refused 8
+  -- a good gap, or a good mark that is not live, does nothing while the primary is unready; it counts
+  pub waits : number (answerTo standard start (Gap (whole 50)) (silent ∷ []) .code) ≡ 0
+  pub counts : stationAfter standard start (Gap (whole 50) ∷ silent ∷ Seed (whole 0) ∷ []) .accepted ≡ 2
+  -- a seed has code 1 only if the primary was unready
+  pub seeds : number (answerTo standard start (Seed (whole 60)) [] .code) ≡ 1
+  pub again : number (answerTo standard start (Seed (whole 60)) (Seed (whole 60) ∷ []) .code) ≡ 0
+  pub unfinished : number (answerTo standard start Finish [] .code) ≡ 3
+  -- the fifth mark: a rival for the lone dit, with the next serial
+  pub fifth : number (answerTo standard start (mark 150) (mark 150 ∷ mark 150 ∷ mark 150 ∷ mark 50 ∷ []) .code) ≡ 1
+  pub begun : stationAfter standard start (mark 150 ∷ mark 150 ∷ mark 150 ∷ mark 150 ∷ mark 50 ∷ []) .bank .started ≡ 1
