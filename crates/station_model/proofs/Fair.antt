@@ -2,11 +2,11 @@
 -- Assumes nothing.
 use mathlib.Core.Path.{_≡_, refl, ap, _∙_}
 use mathlib.Core.Bool.{Bool}
-use mathlib.Core.List.{List, [], _∷_, _++_, map}
+use mathlib.Core.List.{List, [], _∷_, map}
 use mathlib.Core.Option.{Option, none, some}
 use Prim.Native.Nat.{ℕ, _+_, _≤_, _<_}
 use native.Mathlib.Omega.{arith}
-use lib.ListN.{length, set, getElem?, length-append, length-map, length-set}
+use lib.ListN.{length, getElem?, length-append, length-map, length-set}
 use lib.Dec.{ltb, eqb}
 use lib.Ieee.{Float}
 use Rattle.ranges.specs.Settings.{Settings}

@@ -1,12 +1,11 @@
 -- The books of a station over a list of calls: each accepted call keeps them, and no serial wraps. Assumes nothing.
-use mathlib.Core.Path.{_≡_, refl, sym, ap, _∙_}
+use mathlib.Core.Path.{_≡_, refl}
 use mathlib.Core.Bool.{Bool, true, false, cond, _||_}
 use mathlib.Core.List.{List, [], _∷_}
 use Prim.Native.Nat.{ℕ, zero, suc, _+_, _≤_, _<_}
 use native.Mathlib.Omega.{arith}
 use lib.ListN.{length, length-append}
 use lib.Dec.{ltb, leb, eqb}
-use lib.Ieee.{Float}
 use borrow.Author.Tests.{ltb-true, ltb-false, eqb-true, eqb-false, leb-false}
 use Rattle.ranges.specs.Settings.{Settings}
 use Rattle.tracker.specs.Model.{Tracker}

@@ -3,7 +3,7 @@ use mathlib.Core.Path.{_≡_, refl, sym, ap, _∙_}
 use mathlib.Core.Bool.{Bool, true, false, cond, _&&_, and-false}
 use mathlib.Core.List.{List, [], _∷_, map, List·Memᴰ·not-nil}
 use mathlib.Core.Option.{Option, none, some}
-use Prim.Native.Nat.{ℕ, zero, suc, _<_}
+use Prim.Native.Nat.{ℕ, zero, suc}
 use native.Mathlib.Omega.{arith}
 use lib.ListN.{getElem?}
 use lib.Ieee.{Float}
@@ -27,7 +27,7 @@ use Rattle.station_model.proofs.Ledger.{FairAct, fair-act, Books}
 use Rattle.station_model.proofs.Every.{every-set}
 use Rattle.station_model.proofs.Turns.{Comes, old, new, AllCome, come-same, come-ready, come-mark, come-gap}
 use Rattle.station_model.proofs.Trackers.{begin-unready}
-use Rattle.station_model.proofs.Sane.{Still, spawns-ready, still-gap}
+use Rattle.station_model.proofs.Sane.{spawns-ready, still-gap}
 use Rattle.station_model.proofs.Memory.{Memory, Free, Unique, serialAt, streakOf, free-next, memory-quiet, memory-ended, memory-heard}
 
 abbrev pub recorded : Station → Event → Act → Call

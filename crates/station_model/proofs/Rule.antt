@@ -7,7 +7,7 @@ use mathlib.Core.Option.{Option, none, some}
 use Prim.Native.Nat.{ℕ, zero, suc}
 use native.Mathlib.Omega.{arith}
 use lib.ListN.{getElem?}
-use lib.Dec.{leb, eqb}
+use lib.Dec.{leb}
 use borrow.Author.Tests.{leb-false, lt-leb, ne-eqb}
 use Rattle.ranges.specs.Settings.{Settings}
 use Rattle.tracker.specs.Steps.{canBegin}
@@ -19,7 +19,7 @@ use Rattle.station_model.specs.declared.Event.the-variants.{Mark, Gap, F
 use Rattle.station_model.specs.declared.Code.{Code}
 use Rattle.station_model.specs.declared.Code.the-variants.{Switched, Nothing, Refused}
 use Rattle.station_model.specs.Station.{Station, Act, taken, ready, ind, switchAct, acted, accepted, refusal, outcome, step}
-use Rattle.station_model.specs.Watch.{Call, callOn, among, serialOf, named, due, Moved, Ruled, SerialRule}
+use Rattle.station_model.specs.Watch.{Call, callOn, serialOf, named, due, Moved, Ruled, SerialRule}
 use Rattle.station_model.proofs.Lists.{by-cond, no, in-at}
 use Rattle.station_model.proofs.Books.{in-among, ind-eq, among-set}
 use Rattle.station_model.proofs.Sane.{Setup}

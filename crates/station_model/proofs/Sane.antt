@@ -1,17 +1,16 @@
 -- What holds of every station from a fresh one, whatever the calls: its setup, its trackers and evidence, when a choice can be pending. Assumes nothing.
 use mathlib.Core.Path.{_≡_, refl, sym, ap, subst, _∙_}
 use mathlib.Core.Bool.{Bool, true, false}
-use mathlib.Core.List.{List, [], _∷_, map, List·Memᴰ·not-nil}
+use mathlib.Core.List.{List, [], _∷_, List·Memᴰ·not-nil}
 use mathlib.Core.Option.{Option, none, some}
 use Prim.Native.Nat.{ℕ, zero, suc, _≤_, _<_}
 use native.Mathlib.Omega.{arith}
 use lib.ListN.{length, set, getElem?, length-append, length-map, length-set}
-use lib.Dec.{T, leb}
+use lib.Dec.{leb}
 use lib.Ieee.{Float}
-use lib.Ieee.Positive.{positive}
 use Rattle.ranges.specs.Settings.{Settings, Good, Held}
 use Rattle.tracker.specs.Model.{Tracker}
-use Rattle.tracker.specs.Steps.{elementGap, setHint, seeded, canBegin, bootstrapped, settled}
+use Rattle.tracker.specs.Steps.{elementGap, setHint, seeded, canBegin, bootstrapped}
 use Rattle.tracker.specs.Steps as Tracking
 use Rattle.tracker.proofs.Keeping.{fresh-sane, hint-sane, seed-up, begin-sane}
 use Rattle.tracker.proofs.Answering.{good-duration, good-speed}
@@ -19,7 +18,7 @@ use Rattle.bank_model.specs.declared.Origin.{Origin}
 use Rattle.bank_model.specs.declared.Origin.the-variants.{Bootstrap, Streak}
 use Rattle.bank_model.specs.Model.{Hyp, Evidence, Bank, Told, withNew, withEvidence}
 use Rattle.bank_model.specs.Scores.{lnDit, lnDah}
-use Rattle.bank_model.specs.Steps.{Taken, freshBank, on, hears, duplicateAt, roomy, newborn, victim, replacedBy, replacing, spawnedAt, spawnedIfAt, other, onReady, marked, scored, streakOn, emptied, candidateAt, candidate, short, streakEnd, streakAt, high, prunedAt, led, qualified, markedTold, heardMark, onMark, gapped, pausing, onGap, clear, formerly, reporting, takenAt, takenOf, takeSwitch}
+use Rattle.bank_model.specs.Steps.{Taken, freshBank, on, hears, duplicateAt, roomy, newborn, victim, replacedBy, replacing, spawnedAt, spawnedIfAt, other, onReady, marked, scored, emptied, candidateAt, short, streakEnd, streakAt, high, prunedAt, led, qualified, markedTold, heardMark, onMark, gapped, pausing, onGap, clear, formerly, reporting, takenAt, takenOf, takeSwitch}
 use Rattle.bank_model.proofs.Ready.{mark-ready}
 use Rattle.station_model.specs.declared.Event.{Event}
 use Rattle.station_model.specs.declared.Event.the-variants.{Mark, Gap, Finish, Seed, Hint, Clear, Switch}
@@ -29,7 +28,7 @@ use Rattle.station_model.proofs.Lists.{by-cond, no, and-true, in-at}
 use Rattle.station_model.proofs.Picks.{picks-inside}
 use Rattle.station_model.proofs.Every.{heardOf, Every, every-map, every-set, every-ready, every-mark, every-gap}
 use Rattle.station_model.proofs.Ledger.{unrefused}
-use Rattle.station_model.proofs.Trackers.{Heard, HeardOr, Evident, evident-none, evident-gap, evident-empty, evident-on, gap-same, hint-same, hint-recent, mark-recent, begun-recent, begin-unready, Fine, Able, able-settled, able-mark, able-gap, fine-mark, fine-gap, other-able, candidate-able, able-of}
+use Rattle.station_model.proofs.Trackers.{Heard, Evident, evident-none, evident-gap, evident-empty, evident-on, gap-same, hint-same, hint-recent, mark-recent, begun-recent, begin-unready, Fine, Able, able-settled, able-mark, able-gap, fine-mark, fine-gap, other-able, candidate-able, able-of}
 
 -- ---- what no call changes
 

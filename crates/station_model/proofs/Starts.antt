@@ -14,7 +14,7 @@ use Rattle.bank_model.specs.declared.Origin.{Origin}
 use Rattle.bank_model.specs.declared.Origin.the-variants.{Bootstrap, Streak}
 use Rattle.bank_model.specs.Model.{Hyp, Evidence, Bank, Told, withEvidence}
 use Rattle.bank_model.specs.Scores.{lnDit, lnDah}
-use Rattle.bank_model.specs.Steps.{on, hears, duplicateAt, roomy, newborn, victim, replacedBy, replacing, spawnedAt, spawnedIfAt, other, onReady, scored, streakOn, emptied, candidateAt, short, streakEnd, streakAt, high, prunedAt, qualified, onMark, pausing, onGap, clear, takeSwitch}
+use Rattle.bank_model.specs.Steps.{on, hears, duplicateAt, roomy, newborn, victim, replacedBy, replacing, spawnedAt, spawnedIfAt, other, onReady, scored, streakOn, emptied, candidateAt, short, streakEnd, streakAt, high, prunedAt, qualified, onMark, pausing, onGap, clear}
 use Rattle.station_model.specs.declared.Event.{Event}
 use Rattle.station_model.specs.declared.Event.the-variants.{Mark, Gap, Finish, Seed, Hint, Clear, Switch}
 use Rattle.station_model.specs.Station.{Station, Act, ready, acted}

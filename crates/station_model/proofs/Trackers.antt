@@ -1,9 +1,9 @@
 -- Sound trackers and sound evidence stay sound, and what a bank puts in is sound and ready, for every good settings record. Assumes nothing.
 use mathlib.Core.Path.{_≡_, refl, sym, ap, subst, _∙_}
-use mathlib.Core.Bool.{Bool, true, false, cond, not, _&&_, true≢false}
+use mathlib.Core.Bool.{Bool, true, false, cond, not, _&&_}
 use mathlib.Core.List.{List, [], _∷_, _++_}
 use mathlib.Core.Option.{Option, none, some}
-use Prim.Native.Nat.{ℕ, _+_, _≤_, _<_}
+use Prim.Native.Nat.{_+_, _≤_}
 use native.Mathlib.Omega.{arith}
 use lib.Dec.{T, leb, ltb, eqb}
 use lib.ListN.{length, length-append}
@@ -11,21 +11,20 @@ use lib.Ieee.{Float, binary32, mul, lt, fits}
 use borrow.Author.Tests.{ltb-true, ltb-false, leb-true}
 use Rattle.ranges.specs.Settings.{Settings, Good, Held}
 use Rattle.ranges.specs.Limits.{durationMin, durationMax}
-use Rattle.ranges.specs.Interval.{In, AllIn}
-use Rattle.ranges.proofs.Compare.{passed}
+use Rattle.ranges.specs.Interval.{AllIn}
 use Rattle.tracker.specs.Constants.{two}
-use Rattle.tracker.specs.Model.{Pair, Tracker, all, pushed}
+use Rattle.tracker.specs.Model.{Pair, Tracker, all}
 use Rattle.tracker.specs.Lock.{observed}
 use Rattle.tracker.specs.Sound.{duration}
-use Rattle.tracker.specs.Steps.{ditEstimate, elementGap, setHint, seeded, canBegin, bootstrapped, settled, fromMarks, hasOther, threeToOne}
+use Rattle.tracker.specs.Steps.{ditEstimate, elementGap, setHint, canBegin, bootstrapped, settled, fromMarks, hasOther, threeToOne}
 use Rattle.tracker.specs.Steps as Tracking
 use Rattle.tracker.proofs.Starting.{append-in}
 use Rattle.tracker.proofs.Ringing.{both, inside, durations-in}
 use Rattle.tracker.proofs.Soundness.{join, pushed-most}
-use Rattle.tracker.proofs.Keeping.{on-false, Sane, Up, fresh-sane, mark-up, mark-sane, gap-sane, gap-up, hint-sane, seed-up, settled-sane, begin-sane, marks-up, other-up, ready-dit}
+use Rattle.tracker.proofs.Keeping.{on-false, Sane, Up, mark-up, mark-sane, gap-sane, settled-sane, marks-up, other-up, ready-dit}
 use Rattle.bank_model.specs.Model.{Evidence, withLastGap}
 use Rattle.bank_model.specs.Scores.{lnDit, lnDah, twins}
-use Rattle.bank_model.specs.Steps.{none-yet, leastPlace, without, lone, other, one, goesOn, sameSide, streakOn, emptied, turnedIf, candidateAt, short}
+use Rattle.bank_model.specs.Steps.{none-yet, leastPlace, without, lone, other, one, goesOn, sameSide, streakOn, candidateAt, short}
 use Rattle.bank_model.proofs.Ready.{gap-pair, settled-ready}
 use Rattle.bank_model.proofs.Others.{without-in, without-length, least-place-below}
 use Rattle.station_model.specs.Station.{ready}

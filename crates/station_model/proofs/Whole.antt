@@ -1,11 +1,10 @@
 -- The whole watch: demand 3 for every list of calls, every good settings record, every width, switching on or off, and for any program whose calls meet their contract. Assumes nothing.
 use mathlib.Core.Path.{_≡_, refl, sym, ap, subst, _∙_}
-use mathlib.Core.Bool.{Bool, true, false}
-use mathlib.Core.List.{List, [], _∷_, _++_, map, List·Permᴰ, List·Permᴰ·nil, List·Permᴰ·cons, List·Permᴰ·swap, List·Permᴰ·trans, Permᴰ·refl}
+use mathlib.Core.Bool.{Bool}
+use mathlib.Core.List.{List, [], _∷_, map, List·Permᴰ, List·Permᴰ·nil, List·Permᴰ·cons, List·Permᴰ·swap, List·Permᴰ·trans, Permᴰ·refl}
 use mathlib.Core.Option.{Option, none, some}
-use Prim.Native.Nat.{ℕ, _+_, _≤_, _<_}
+use Prim.Native.Nat.{ℕ, _+_}
 use native.Mathlib.Omega.{arith}
-use lib.ListN.{length}
 use lib.Dec.{ltb, eqb}
 use borrow.Author.Tests.{lt-ltb, le-ltb}
 use Rattle.ranges.specs.Settings.{Settings, Good, Held}
@@ -14,7 +13,7 @@ use Rattle.bank_model.specs.declared.Cause.the-variants.{Twin, Outscored, Aged,
 use Rattle.bank_model.specs.declared.Departure.{Departure}
 use Rattle.bank_model.specs.Steps.{freshBank}
 use Rattle.station_model.specs.declared.Event.{Event}
-use Rattle.station_model.specs.Station.{Station, Answer, taken, ready, fresh, ind, isCause, ofCause, step}
+use Rattle.station_model.specs.Station.{Station, Answer, taken, fresh, ind, isCause, ofCause, step}
 use Rattle.station_model.specs.Watch.{Call, eventOf, Carries, AllCarry, stationAfter, answerTo, callOn, callsOf, Each, SameAnswer, AsDefined, gone, departures, countsOf, due, Moved, Ruled, SwitchRule, SerialRule, Watch, Promised, Ran, RanFrom, Stepped, Settled}
 use Rattle.station_model.proofs.Books.{gone-append, cause-append, by-cause, ind-true, ind-false}
 use Rattle.station_model.proofs.Ledger.{Books, books-spare, books-step, books-fresh}

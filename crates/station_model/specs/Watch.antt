@@ -12,7 +12,6 @@ use Rattle.ranges.specs.Settings.{Settings}
 use Rattle.ranges.specs.Interval.{In}
 use Rattle.tracker.specs.Model.{Tracker}
 use Rattle.tracker.specs.Steps.{settled}
-use Rattle.bank_model.specs.declared.Cause.{Cause}
 use Rattle.bank_model.specs.declared.Cause.the-variants.{Twin, Outscored, Aged, Replaced, Cleared}
 use Rattle.bank_model.specs.declared.Departure.{Departure}
 use Rattle.bank_model.specs.Model.{Hyp}
