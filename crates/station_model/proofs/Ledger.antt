@@ -18,7 +18,7 @@ use Rattle.station_model.specs.declared.Event.{Event}
 use Rattle.station_model.specs.declared.Event.the-variants.{Mark, Gap, Finish, Seed, Hint, Clear, Switch}
 use Rattle.station_model.specs.declared.Code.{Code}
 use Rattle.station_model.specs.Station.{Station, Act, ready, fresh, ind, ofCause, act, readyAct, learntAct, switchAct, acted, accepted, full, fault, refusal, outcome, step}
-use Rattle.station_model.specs.Watch.{Call, callOn, among, gone, departures}
+use Rattle.station_model.specs.Watch.{Call, stationAfter, callOn, callsOf, among, gone, departures}
 use Rattle.station_model.proofs.Lists.{by-cond, no}
 use Rattle.station_model.proofs.Books.{gone-append, cause-append}
 use Rattle.station_model.proofs.Fair.{Spare, held, Fair, FairTake, fair-stay, fair-ready, fair-mark, fair-gap, fair-clear, fair-take}
@@ -80,6 +80,7 @@ pub record Books (calls : List Call) (s : Station) : Type 0 where
   pub once : (n : ℕ) → ind (eqb n (s .serial)) + held n (s .bank) + gone n (departures calls) ≡ 1
   pub balance : s .bank .started ≡ length (s .bank .challengers) + length (departures calls)
   pub few : s .bank .started ≤ s .accepted
+  pub within : s .accepted ≤ 4294967295
   pub twins : s .counts .twins ≡ ofCause Twin (departures calls)
   pub outscored : s .counts .outscored ≡ ofCause Outscored (departures calls)
   pub aged : s .counts .aged ≡ ofCause Aged (departures calls)
@@ -90,13 +91,14 @@ pub record Books (calls : List Call) (s : Station) : Type 0 where
 pub books-spare : (calls : List Call) (s : Station) (e : Event) → Books calls s → refusal s e ≡ 0 → Spare (s .bank)
 books-spare calls s e b z = omega (arith, b .few, unrefused s e z .0)
 
-books-accepted : (calls : List Call) (s : Station) (e : Event) (a : Act) → Books calls s → FairAct s a → a .told .bank .started ≤ suc (s .bank .started)
+books-accepted : (calls : List Call) (s : Station) (e : Event) (a : Act) → Books calls s → FairAct s a → a .told .bank .started ≤ suc (s .bank .started) → s .accepted < 4294967295
     → Books (record { event = e; answer = accepted s a .answer; before = s; after = accepted s a .station } ∷ calls) (accepted s a .station)
 unfolding departures
-books-accepted calls s e a b x one = record {
+books-accepted calls s e a b x one below = record {
   once = λ n. omega (arith, b .once n, x .kept n, gone-append n (a .told .left) (departures calls));
   balance = omega (arith, b .balance, x .balanced, length-append (a .told .left) (departures calls));
   few = omega (arith, b .few);
+  within = omega arith;
   twins = omega (arith, b .twins, cause-append Twin (a .told .left) (departures calls));
   outscored = omega (arith, b .outscored, cause-append Outscored (a .told .left) (departures calls));
   aged = omega (arith, b .aged, cause-append Aged (a .told .left) (departures calls));
@@ -108,8 +110,8 @@ module _ (k : Settings) where
   books-outcome : (calls : List Call) (s : Station) (e : Event) (r : ℕ) → refusal s e ≡ r → Books calls s
       → Books (record { event = e; answer = outcome k s e r .answer; before = s; after = outcome k s e r .station } ∷ calls) (outcome k s e r .station)
   unfolding departures
-  books-outcome calls s e zero z b = books-accepted calls s e (acted k s e) b (fair-acted k s e (books-spare calls s e b z)) (one-acted k s e)
-  books-outcome calls s e (suc n) z b = record { once = b .once; balance = b .balance; few = b .few; twins = b .twins; outscored = b .outscored; aged = b .aged; replaced = b .replaced; cleared = b .cleared }
+  books-outcome calls s e zero z b = books-accepted calls s e (acted k s e) b (fair-acted k s e (books-spare calls s e b z)) (one-acted k s e) (unrefused s e z .0)
+  books-outcome calls s e (suc n) z b = record { once = b .once; balance = b .balance; few = b .few; within = b .within; twins = b .twins; outscored = b .outscored; aged = b .aged; replaced = b .replaced; cleared = b .cleared }
 
   pub books-step : (calls : List Call) (s : Station) (e : Event) → Books calls s → Books (callOn k s e ∷ calls) (step k s e .station)
   unfolding step
@@ -126,4 +128,16 @@ none-or-more n = go (eqb n 0) (ltb 0 n) refl refl
 
 pub books-fresh : (width : ℕ) (switching : Bool) → Books [] (fresh width switching)
 unfolding departures among gone ofCause
-books-fresh width switching = record { once = λ n. omega (arith, none-or-more n); balance = refl; few = omega arith; twins = refl; outscored = refl; aged = refl; replaced = refl; cleared = refl }
+books-fresh width switching = record { once = λ n. omega (arith, none-or-more n); balance = refl; few = omega arith; within = omega arith; twins = refl; outscored = refl; aged = refl; replaced = refl; cleared = refl }
+
+-- ---- every list of calls
+
+module _ (k : Settings) (width : ℕ) (switching : Bool) where
+  pub booked : (events : List Event) → Books (callsOf k (fresh width switching) events) (stationAfter k (fresh width switching) events)
+  unfolding callsOf stationAfter
+  booked [] = books-fresh width switching
+  booked (e ∷ events) = books-step k (callsOf k (fresh width switching) events) (stationAfter k (fresh width switching) events) e (booked events)
+
+  -- no serial wraps: as many are given out as calls were accepted, at most
+  pub serials-small : (events : List Event) → stationAfter k (fresh width switching) events .bank .started ≤ 4294967295
+  serials-small events = let b = booked events in omega (arith, b .few, b .within)

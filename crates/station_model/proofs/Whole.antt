@@ -7,7 +7,8 @@ use Prim.Native.Nat.{ℕ, _+_}
 use native.Mathlib.Omega.{arith}
 use lib.Dec.{ltb, eqb}
 use borrow.Author.Tests.{lt-ltb, le-ltb}
-use Rattle.ranges.specs.Settings.{Settings, Good, Held}
+use Rattle.ranges.specs.Settings.{Settings, Good, Held, standard}
+use Rattle.ranges.proofs.Standard.{standard-good, standard-held}
 use Rattle.bank_model.specs.declared.Cause.{Cause}
 use Rattle.bank_model.specs.declared.Cause.the-variants.{Twin, Outscored, Aged, Replaced, Cleared}
 use Rattle.bank_model.specs.declared.Departure.{Departure}
@@ -16,7 +17,7 @@ use Rattle.station_model.specs.declared.Event.{Event}
 use Rattle.station_model.specs.Station.{Station, Answer, taken, fresh, ind, isCause, ofCause, step}
 use Rattle.station_model.specs.Watch.{Call, eventOf, Carries, AllCarry, stationAfter, answerTo, callOn, callsOf, Each, SameAnswer, AsDefined, gone, departures, countsOf, due, Moved, Ruled, SwitchRule, SerialRule, Watch, Promised, Ran, RanFrom, Stepped, Settled}
 use Rattle.station_model.proofs.Books.{gone-append, cause-append, by-cause, ind-true, ind-false}
-use Rattle.station_model.proofs.Ledger.{Books, books-spare, books-step, books-fresh}
+use Rattle.station_model.proofs.Ledger.{Books, books-spare, booked}
 use Rattle.station_model.proofs.Trackers.{fine-dit, able-dit}
 use Rattle.station_model.proofs.Sane.{Sane, sane-step, sane-fresh}
 use Rattle.station_model.proofs.Memory.{Memory}
@@ -107,17 +108,17 @@ module _ (k : Settings) where
     abbrev start : Station
     start = fresh width switching
 
-    kept-next : (calls : List Call) (s : Station) (e : Event) → Carries e → Kept calls s → Kept (callOn k s e ∷ calls) (step k s e .station)
-    kept-next calls s e c w = record {
-      books = books-step k calls s e (w .books);
+    kept-next : (calls : List Call) (s : Station) (e : Event) → Carries e → Books (callOn k s e ∷ calls) (step k s e .station) → Kept calls s → Kept (callOn k s e ∷ calls) (step k s e .station)
+    kept-next calls s e c b w = record {
+      books = b;
       sane = sane-step k G H (freshBank width switching) s e c (w .sane);
       memory = memory-step k calls s (unique-of calls s (w .books)) (w .sane .off) (w .sane .unready) (w .memory) e (books-spare calls s e (w .books));
     }
 
     pub kept : (events : List Event) → AllCarry events → Kept (callsOf k start events) (stationAfter k start events)
     unfolding callsOf stationAfter AllCarry
-    kept [] c = record { books = books-fresh width switching; sane = sane-fresh k G H width switching; memory = memory-fresh k width switching }
-    kept (e ∷ events) c = kept-next (callsOf k start events) (stationAfter k start events) e (c .0) (kept events (c .1))
+    kept [] c = record { books = booked k width switching []; sane = sane-fresh k G H width switching; memory = memory-fresh k width switching }
+    kept (e ∷ events) c = kept-next (callsOf k start events) (stationAfter k start events) e (c .0) (booked k width switching (e ∷ events)) (kept events (c .1))
 
     -- ---- what calls that did so come to
 
@@ -217,3 +218,8 @@ module _ (k : Settings) where
 
         pub program-watch : (calls : List (Ran S R)) (now : S) → RanFrom station Called first calls now → Watch k width switching (map viewed calls) (view now)
         program-watch calls now t = let r = trail calls now t in watch (map viewed calls) (view now) (r .carried) (r .traced)
+
+-- ---- demand 3 with document 01's own numbers: every ready dit lies in 20 to 150 ms
+
+pub promised-standard : (width : ℕ) (switching : Bool) → Promised standard width switching
+promised-standard width switching = promised standard standard-good standard-held width switching
