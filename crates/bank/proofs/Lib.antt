@@ -13,3 +13,4 @@ pub mod Sounding
 pub mod Refusing
 pub mod Answering
 pub mod Beginning
+pub mod Laws

@@ -1,0 +1,17 @@
+pub mod Lists
+pub mod Books
+pub mod Fair
+pub mod Starts
+pub mod Ledger
+pub mod Picks
+pub mod Every
+pub mod Turns
+pub mod Trackers
+pub mod Sane
+pub mod Memory
+pub mod Recall
+pub mod Rule
+pub mod Whole
+pub mod Ordered
+pub mod Counted
+pub mod Examples

@@ -1,0 +1,3 @@
+pub mod Station
+pub mod Watch
+pub mod Examples
