@@ -11,8 +11,8 @@ use Rattle.ranges.specs.Settings.{standard}
 use Rattle.bank_model.specs.declared.Best.{Best}
 use Rattle.bank_model.specs.declared.Best.the-variants.{Unfound, Found}
 use Rattle.bank_model.specs.Model.{Hyp, Bank, withChallengers}
-use Rattle.bank_model.specs.Steps.{place, eligible, qualifies, leastFrom, highestFrom, led, qualified}
-use Rattle.bank_model.proofs.Places.{Before, least-before, highest-before}
+use Rattle.bank_model.specs.Steps.{Before, place, eligible, qualifies, leastFrom, highestFrom, led, qualified}
+use Rattle.bank_model.proofs.Places.{least-before, highest-before}
 use Rattle.bank.specs.declared.TimingBank.{TimingBank}
 use Rattle.rival.specs.View.{viewHyp}
 use Rattle.bank.specs.View.{given, view}

@@ -10,12 +10,7 @@ use Rattle.bank_model.specs.declared.Best.{Best}
 use Rattle.bank_model.specs.declared.Best.the-variants.{Unfound, Found}
 use Rattle.bank_model.specs.Model.{Hyp}
 use Rattle.bank_model.specs.Scores.{below, above}
-use Rattle.bank_model.specs.Steps.{lesser, higher, leastFrom, highestFrom}
-
--- what was found is before place n
-abbrev pub Before : ℕ → Best → Type 0
-Before n Unfound = Unit {0}
-Before n (Found i s) = i < n
+use Rattle.bank_model.specs.Steps.{Before, lesser, higher, leastFrom, highestFrom}
 
 later : (n m : ℕ) (v : Best) → n < suc m → Before n v → Before m v
 later n m Unfound h w = tt

@@ -58,10 +58,11 @@ ahead k c p = le (k .lead) (sub binary32 c p)
 abbrev pub behind : Settings → Float → Float → Bool
 behind k p c = not (lt (sub binary32 p c) (k .prune))
 
+-- by IEEE's comparison, as the Rust compares gap scores and picks the highest
 abbrev pub above : Float → Float → Bool
 above a b = lt b a
 
--- in Rust's total order
+-- by Rust's total order, as the Rust's `min_by` with `total_cmp` picks the least
 abbrev pub below : Float → Float → Bool
 below a b = totalLess a b
 

@@ -2,13 +2,12 @@
 use mathlib.Core.Bool.{Bool, true, false, cond, not, _&&_, _||_, Bool·beq}
 use mathlib.Core.List.{List, [], _∷_, _++_, map}
 use mathlib.Core.Option.{Option, none, some}
-use Prim.Native.Nat.{ℕ, zero, suc, _+_, _-_}
+use Prim.Native.Nat.{ℕ, zero, suc, _+_, _<_}
 use lib.ListN.{length, set, getElem?}
 use lib.Dec.{ltb, leb, eqb}
 use lib.Ieee.{Float, binary32, mul, lt, le}
 use Rattle.order.specs.Order.{larger, totalLess}
 use Rattle.ranges.specs.Settings.{Settings}
-use Rattle.marks.specs.Constants.{two}
 use Rattle.marks.specs.Lists as Lists
 use Rattle.tracker.specs.Model.{Tracker}
 use Rattle.pair.specs.Lock.{boundary}
@@ -57,6 +56,11 @@ hears b p = on b && p .pair .ready
 abbrev pub place : Best → Option ℕ
 place Unfound = none
 place (Found i s) = some i
+
+-- what was found, if anything, is before place n
+abbrev pub Before : ℕ → Best → Type 0
+Before n Unfound = Unit {0}
+Before n (Found i s) = i < n
 
 abbrev pub lesser : ℕ → Float → Best → Best
 lesser i s Unfound = Found i s
