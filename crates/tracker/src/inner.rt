@@ -3,7 +3,6 @@ pub mod begin;
 pub mod drift;
 pub mod gaps;
 pub mod mark;
-pub mod push;
 pub mod refusals;
 pub mod relock;
 pub mod resolve;

@@ -3,15 +3,35 @@ use ranges::is_duration;
 ghost use mathlib.Core.Path.{_≡_};
 ghost use mathlib.Core.List.{[], _∷_, _++_};
 ghost use lib.ListN.{drop, take, length};
-ghost use Rattle.marks.specs.Lists.{duration, allDurations};
+ghost use Rattle.marks.specs.Lists.{duration, allDurations, pushed};
 ghost use Prim.Native.Nat.{_≤_, _<_};
 ghost use mathlib.Core.Bool.{true, false};
 
 // The oldest of five goes, and d comes.
-pub fn shift_recent(r: [f32; 5], d: f32) -> [f32; 5]
+pub(crate) fn shift_recent(r: [f32; 5], d: f32) -> [f32; 5]
     ensures { λ s. ⌜ s ≡ drop 1 r ++ (d ∷ []) ⌝ }
 {
     [r[1], r[2], r[3], r[4], d]
+}
+
+// The last marks, at most five.
+pub struct Recent {
+    pub at: [f32; 5],
+    pub n: usize,
+}
+
+// d is the latest of the recent marks, of which there were n.
+pub fn push_recent(at: [f32; 5], n: usize, d: f32) -> Recent
+    requires { ⌜ n ≤ 5 ⌝ }
+    ensures { λ r. ⌜ (take (r .n) (r .at) ≡ pushed 5 (take n at) d) × (r .n ≤ 5) ⌝ }
+{
+    if n < 5 {
+        let mut s = at;
+        s[n] = d;
+        return Recent { at: s, n: n + 1 };
+    }
+    let s = shift_recent(at, d);
+    Recent { at: s, n }
 }
 
 // Five marks at the head of an array of twelve.

@@ -3,11 +3,13 @@ use crate::SpeedTracker;
 use order::clamp32;
 use pair::inner::pair::constrain;
 ghost use mathlib.Core.Path.{_≡_};
+ghost use lib.Ieee.{binary32, div};
+ghost use Rattle.ranges.specs.Limits.{paris};
 ghost use Rattle.ranges.specs.Settings.{standard};
 ghost use Rattle.pair.specs.Model.{held};
 ghost use Rattle.tracker.specs.Model.{view};
 ghost use Rattle.tracker.specs.Parts.{Counted};
-ghost use Rattle.tracker.specs.Steps.{bias, estimate, ditEstimate, speed, timed, averaged, bound, spoken};
+ghost use Rattle.tracker.specs.Steps.{bias, estimate, ditEstimate, timed, averaged, bound, spoken};
 
 // Half the difference of dit and gap centroid, at most 0.35 dits either way.
 pub(crate) fn bias(lo: f32, g: f32) -> f32
@@ -35,10 +37,10 @@ pub fn dit_estimate(t: SpeedTracker) -> f32
 }
 
 // 1200 / dit estimate.
-pub(crate) fn speed(t: SpeedTracker) -> f32
-    ensures { λ r. ⌜ r ≡ speed standard (view t) ⌝ }
+pub(crate) fn speed(lo: f32, has_egap: bool, g: f32) -> f32
+    ensures { λ r. ⌜ r ≡ div binary32 paris (estimate standard lo (held «has_egap» g)) ⌝ }
 {
-    1200.0 / dit_estimate(t)
+    1200.0 / estimate(lo, has_egap, g)
 }
 
 // The speed average begins anew.
@@ -46,7 +48,7 @@ pub(crate) fn timed(t: SpeedTracker) -> SpeedTracker
     requires { ⌜ Counted t ⌝ }
     ensures { λ r. ⌜ (view r ≡ timed standard (view t)) × Counted r ⌝ }
 {
-    let w = speed(t);
+    let w = speed(t.pair.lo, t.has_egap, t.mu_egap_ms);
     let mut u = t;
     u.has_wpm = true;
     u.wpm_ema = w;
@@ -68,7 +70,7 @@ pub(crate) fn spoken(t: SpeedTracker) -> SpeedTracker
     requires { ⌜ Counted t ⌝ }
     ensures { λ r. ⌜ (view r ≡ spoken standard (view t)) × Counted r ⌝ }
 {
-    let raw = speed(t);
+    let raw = speed(t.pair.lo, t.has_egap, t.mu_egap_ms);
     let w = averaged(t.has_wpm, t.wpm_ema, raw);
     let mut u = t;
     u.has_wpm = true;

@@ -3,11 +3,11 @@ use borrow.Author.Needs.{needs}
 use Rattle.tracker.proofs.inner.speed.speed.Statement.{statement}
 use Rattle.tracker.proofs.inner.speed.speed.Tie as tie
 
-dit-estimate-requires : tie.Need-dit-estimate-requires
-dit-estimate-requires c κs = search needs
+estimate-requires : tie.Need-estimate-requires
+estimate-requires c κs = search needs
 
 returns : tie.Need-returns
-returns c = rw (c .dit-estimate .ensures)
+returns c = rw (c .estimate .ensures)
 
 pub speed-spec : {M : Type 1} → statement M
-speed-spec = tie.close (tie.spec dit-estimate-requires returns)
+speed-spec = tie.close (tie.spec estimate-requires returns)
