@@ -4,7 +4,7 @@ mod cases;
 mod count;
 mod follow;
 mod parts;
-mod state;
+pub(crate) mod state;
 
 use crate::compare::{Difference, Layer};
 use crate::hullathan::bank as ours;
