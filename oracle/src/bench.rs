@@ -263,8 +263,8 @@ pub fn tracker() {
     }
 }
 
-/// What the bank is measured on: marks and gaps of keyed text whose speed changes threefold now and then, and the primary after
-/// each mark, on both sides. The bank only notes its switches, so that the primaries stay as they are.
+/// What the bank is measured on: marks and gaps, and the primary after each mark, on both sides. The bank only notes its switches, so
+/// that the primaries stay as they are.
 #[cfg(manta)]
 struct Heard {
     marks: Vec<f32>,
@@ -273,24 +273,45 @@ struct Heard {
     rust: Vec<crate::manta::timing::SpeedTracker>,
 }
 
+/// Keyed text whose speed changes now and then: few rivals come.
 #[cfg(manta)]
-fn heard() -> Heard {
+fn one_sender() -> Vec<f32> {
+    let speeds = [1.0, 0.4, 1.0, 2.2];
+    let at = |(i, m): (usize, f32)| m * speeds[i / 97 % 4];
+    text().into_iter().enumerate().map(at).collect()
+}
+
+/// Runs of marks of one length by many senders: rivals come all the time.
+#[cfg(manta)]
+fn many_senders() -> Vec<f32> {
+    let mut random = Random::new(8);
+    let mut unit = 60.0;
+    let mark = |i: usize| {
+        if i % 5 == 0 {
+            unit = random.scale(22.0, 450.0) as f32;
+        }
+        unit * (0.97 + 0.06 * random.fraction() as f32)
+    };
+    (0..INPUTS).map(mark).collect()
+}
+
+#[cfg(manta)]
+fn heard(marks: Vec<f32>) -> Heard {
     use crate::hullathan::tracker as ours;
     let mut random = Random::new(7);
+    let (mut t, mut m) = (ours::new(), crate::manta::timing::SpeedTracker::new());
     let mut h = Heard {
-        marks: text(),
-        gaps: Vec::new(),
+        gaps: marks
+            .iter()
+            .map(|m| m * random.pick(&[1.0, 1.0, 1.0, 0.3, 3.0]))
+            .collect(),
+        marks,
         ours: Vec::new(),
         rust: Vec::new(),
     };
-    let (mut t, mut m) = (ours::new(), crate::manta::timing::SpeedTracker::new());
-    for (i, mark) in h.marks.iter_mut().enumerate() {
-        let scale = [1.0, 0.4, 1.0, 2.2][i / 97 % 4];
-        *mark *= scale;
-        let units = [1.0, 1.0, 1.0, 3.0, 7.0][random.below(5) as usize];
-        h.gaps.push(60.0 * scale * units);
-        t = ours::on_mark(t, *mark).tracker;
-        m.on_mark(*mark);
+    for &mark in &h.marks {
+        t = ours::on_mark(t, mark).tracker;
+        m.on_mark(mark);
         h.ours.push(t);
         h.rust.push(m.clone());
     }
@@ -375,31 +396,124 @@ fn company(h: &Heard, width: usize) -> f64 {
     sum as f64 / h.ours.len() as f64
 }
 
-/// Tables in markdown: the calls of a bank of width 2 and of one of width 8.
+/// A table in markdown: the calls of a bank of width 2 and of one of width 8.
 #[cfg(manta)]
-pub fn bank() {
-    let h = heard();
+fn bank_table(what: &str, h: &Heard, gaps: bool) {
     let names = [
         "manta's",
         "the inner functions, over C",
         "the public calls, over C",
         "a bank passed to C and back",
     ];
-    for (what, gaps) in [
-        ("one mark", false),
-        ("one mark, one gap and one switch call", true),
-    ] {
-        println!("| {what} | width | challengers | ns | over the Rust |\n|---|---|---|---|---|");
-        for width in [2, 8] {
-            let times = medians_of(bank_loops(&h, width, gaps), 1);
-            let there = company(&h, width);
-            for (name, t) in names.iter().zip(&times) {
-                println!(
-                    "| {name} | {width} | {there:.1} | {t:.0} | {:.2} |",
-                    t / times[0]
-                );
-            }
+    println!("| {what} | width | challengers | ns | over the Rust |\n|---|---|---|---|---|");
+    for width in [2, 8] {
+        let times = medians_of(bank_loops(h, width, gaps), 3);
+        let there = company(h, width);
+        for (name, t) in names.iter().zip(&times) {
+            println!(
+                "| {name} | {width} | {there:.1} | {t:.0} | {:.2} |",
+                t / times[0]
+            );
         }
-        println!();
     }
+    println!();
+}
+
+/// A full bank whose challengers no mark sends away: former primaries, apart from each other and protected.
+#[cfg(manta)]
+fn full(width: usize) -> crate::hullathan::bank::Bank {
+    use crate::hullathan::bank as ours;
+    use crate::log01::Ln01;
+    let mut b = ours::new(width, false).bank;
+    b.challengers_len = width - 1;
+    for (i, h) in b.challengers[..width - 1].iter_mut().enumerate() {
+        let p = &mut h.tracker.pair;
+        let lo = 20.0 * 1.31f32.powi(i as i32);
+        (p.ready, p.confirmed, p.lo, p.hi) = (true, true, lo, 4.4 * lo);
+        (h.ln_lo, h.ln_hi) = (p.lo.ln01(), p.hi.ln01());
+        (h.origin, h.retain_marks, h.serial) = (2, u32::MAX, i as u64 + 1);
+    }
+    b
+}
+
+/// A call on such a bank, handed in anew each time: in the Rust on a copy, and the copy alone.
+#[cfg(manta)]
+fn full_table(what: &str, h: &Heard, mark: bool) {
+    use crate::hullathan::bank as ours;
+    use crate::layers::bank::state::manta;
+    println!("| {what} | challengers | ns |\n|---|---|---|");
+    for width in [2, 8] {
+        let b = full(width);
+        let m = manta(&b);
+        let each = |f: &dyn Fn(usize)| (0..INPUTS).for_each(f);
+        let copy = || each(&|_| drop(black_box(m.clone())));
+        let rust = || {
+            each(&|i| {
+                let mut b = m.clone();
+                match mark {
+                    true => b.on_mark(&h.rust[i], h.marks[i], true),
+                    false => b.on_gap(&h.rust[i], h.gaps[i]),
+                }
+                black_box(&b);
+            })
+        };
+        // Safety: bank and primary are sound, and the durations lie from 5 to 2,000
+        let inner = || {
+            each(&|i| match mark {
+                true => {
+                    black_box(unsafe { ours::inner_on_mark(b, h.ours[i], h.marks[i], true) });
+                }
+                false => {
+                    black_box(unsafe { ours::inner_on_gap(b, h.ours[i], h.gaps[i]) });
+                }
+            })
+        };
+        let public = || {
+            each(&|i| match mark {
+                true => {
+                    black_box(ours::on_mark(b, h.ours[i], h.marks[i], true));
+                }
+                false => {
+                    black_box(ours::on_gap(b, h.ours[i], h.gaps[i]));
+                }
+            })
+        };
+        let passed = || {
+            each(&|_| {
+                black_box(ours::same(b));
+            })
+        };
+        let rows: Vec<(&str, Loop)> = vec![
+            ("manta's, and a copy of its bank", Box::new(rust)),
+            ("a copy of manta's bank", Box::new(copy)),
+            ("the inner function, over C", Box::new(inner)),
+            ("the public call, over C", Box::new(public)),
+            ("a bank passed to C and back", Box::new(passed)),
+        ];
+        let (names, loops): (Vec<_>, Vec<_>) = rows.into_iter().unzip();
+        for (name, t) in names.iter().zip(medians_of(loops, 3)) {
+            println!("| {name} | {} | {t:.0} |", width - 1);
+        }
+    }
+    println!();
+}
+
+/// Tables of a watch of one sender, of one of many, and of single calls on a full bank.
+#[cfg(manta)]
+pub fn bank() {
+    for (who, marks) in [
+        ("one sender", one_sender()),
+        ("many senders", many_senders()),
+    ] {
+        let h = heard(marks);
+        bank_table(&format!("{who}, one mark"), &h, false);
+        bank_table(
+            &format!("{who}, one mark, one gap, one switch call"),
+            &h,
+            true,
+        );
+    }
+    let h = heard(one_sender());
+    full_table("a full bank, one mark", &h, true);
+    full_table("a full bank, one gap", &h, false);
 }

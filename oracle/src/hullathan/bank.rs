@@ -270,11 +270,11 @@ mod tests {
             ),
             (24, 3160)
         );
-        assert_eq!((size_of::<Bank>(), offset_of!(Bank, log)), (3672, 3272));
+        assert_eq!((size_of::<Bank>(), offset_of!(Bank, log)), (3656, 3256));
         assert_eq!(size_of::<Departure>(), 16);
         assert_eq!(
             (size_of::<Answered>(), offset_of!(Answered, left)),
-            (3832, 3680)
+            (3816, 3664)
         );
     }
 

@@ -68,22 +68,31 @@ fn reaches<L: Layer>(case: &L::Case) -> BTreeSet<usize> {
     after.enumerate().filter(|x| x.1).map(|x| x.0).collect()
 }
 
+/// The branches that are not among these.
+fn missing<L: Layer>(done: &BTreeSet<usize>) -> Vec<&'static str> {
+    let all = L::reached().iter().enumerate();
+    all.filter(|(i, _)| !done.contains(i))
+        .map(|(_, b)| b.name)
+        .collect()
+}
+
 /// A list that reaches every branch: the first calls, and then for each branch that is left a random list of no more than so many
 /// calls, made as short as it can be, after the calls that begin anew.
 fn choose<L: Layer<Case = Vec<C>>, C: Clone>(
     first: Vec<C>,
     random: impl Fn(&mut Random) -> Vec<C>,
     anew: &[C],
-    longest: usize,
+    longest: u64,
 ) -> Vec<C> {
     let mut calls = first;
     let mut done = reaches::<L>(&calls);
     let mut seed = 0;
     while done.len() < L::reached().len() {
         seed += 1;
-        assert!(seed < 1_000_000, "a branch was not reached");
+        assert!(seed < 400_000, "not reached: {:?}", missing::<L>(&done));
         let case = random(&mut Random::new(seed));
-        if case.len() > longest {
+        // short lists first
+        if case.len() as u64 > longest * (1 + seed / 10_000) {
             continue;
         }
         let new: BTreeSet<usize> = reaches::<L>(&case).difference(&done).copied().collect();

@@ -176,7 +176,7 @@ fn by_hand() -> Vec<Call> {
 /// A list that reaches every branch.
 fn choose() -> Vec<Call> {
     let random = |random: &mut Random| spelled(random_case(random));
-    super::choose::<Tracker, Call>(by_hand(), random, &[Call::Fresh], usize::MAX)
+    super::choose::<Tracker, Call>(by_hand(), random, &[Call::Fresh], 1 << 32)
 }
 
 #[cfg(test)]

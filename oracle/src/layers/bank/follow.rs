@@ -110,3 +110,83 @@ pub fn left_at_clear(before: &Bank, after: &TimingBank) -> Vec<Departure> {
         .filter(|h| !stayed.contains(&h.name));
     dropped.map(|h| gone(before, h, CLEARED)).collect()
 }
+
+#[cfg(test)]
+mod tests {
+    use super::*;
+    use crate::hullathan::bank::Hypothesis;
+
+    fn rival(serial: u64, lo: f32) -> Hypothesis {
+        let mut h = Hypothesis {
+            serial,
+            ln_lo: lo.ln01(),
+            ln_hi: (3.0 * lo).ln01(),
+            ..Hypothesis::default()
+        };
+        let p = &mut h.tracker.pair;
+        (p.ready, p.confirmed, p.lo, p.hi) = (true, true, lo, 3.0 * lo);
+        h
+    }
+
+    /// A bank of three rivals of a primary of 60 and 180, and the Rust's after a mark of the primary's dah that is not live.
+    fn after_mark(change: impl Fn(&mut Bank)) -> (Bank, TimingBank, Vec<Departure>) {
+        let mut b = Bank {
+            width: 4,
+            challengers_len: 3,
+            started: 9,
+            ..Bank::default()
+        };
+        for (i, lo) in [22.0, 100.0, 140.0].into_iter().enumerate() {
+            b.challengers[i] = rival(5 + i as u64, lo);
+        }
+        change(&mut b);
+        let primary = SpeedTracker::from_marks(&[60.0, 60.0, 180.0, 180.0], &[]);
+        let mut m = manta(&b);
+        m.on_mark(&primary, 180.0, false);
+        let left = left_at_mark(&b, &m, &primary, 180.0, false);
+        (b, m, left)
+    }
+
+    fn gone(serial: u64, cause: u8) -> Departure {
+        Departure { serial, cause }
+    }
+
+    #[test]
+    fn no_one_leaves() {
+        let (b, m, left) = after_mark(|_| {});
+        assert_eq!(left, []);
+        assert_eq!(serials(&b, &m), (vec![5, 6, 7], 9));
+    }
+
+    /// A twin though it is protected, one far behind though it is old, one that is only old.
+    #[test]
+    fn each_by_its_cause() {
+        let (b, m, left) = after_mark(|b| {
+            b.challengers[0] = rival(5, 61.0);
+            (b.challengers[0].origin, b.challengers[0].retain_marks) = (2, 24);
+            (b.challengers[1].score, b.challengers[1].age_marks) = (-15.0, 70);
+            b.challengers[2].age_marks = 63;
+        });
+        assert_eq!(left, [gone(5, TWIN), gone(6, OUTSCORED), gone(7, AGED)]);
+        assert_eq!(serials(&b, &m), (vec![], 9));
+    }
+
+    /// One that comes gets the next serial, also after the largest; the one whose place it takes is replaced.
+    #[test]
+    fn one_comes() {
+        let (mut b, mut m, _) = after_mark(|_| {});
+        m.challengers[1].name = None;
+        assert_eq!(serials(&b, &m), (vec![5, 10, 7], 10));
+        assert_eq!(left_at_ready(&b, &m), [gone(6, REPLACED)]);
+        b.started = u64::MAX;
+        assert_eq!(serials(&b, &m), (vec![5, 0, 7], 0));
+    }
+
+    #[test]
+    fn all_are_cleared() {
+        let (b, mut m, _) = after_mark(|_| {});
+        m.clear();
+        let left = [gone(5, CLEARED), gone(6, CLEARED), gone(7, CLEARED)];
+        assert_eq!(left_at_clear(&b, &m), left);
+    }
+}

@@ -4,7 +4,7 @@ mod cases;
 mod count;
 mod follow;
 mod parts;
-mod state;
+pub(crate) mod state;
 
 use crate::compare::{Difference, Layer};
 use crate::hullathan::bank as ours;
@@ -44,6 +44,21 @@ pub enum Call {
     Hand(Box<Bank>),
     /// Nothing is called: a script shows both states.
     Show,
+}
+
+impl Call {
+    /// Whether the bank is called, and nothing only set or shown or fed to the primary.
+    fn is_of_bank(&self) -> bool {
+        !matches!(
+            self,
+            Call::Primary(_)
+                | Call::Serial(_)
+                | Call::Set(..)
+                | Call::SetTracker(..)
+                | Call::Hand(_)
+                | Call::Show
+        )
+    }
 }
 
 fn floats(bits: &[u32]) -> Vec<f32> {
@@ -459,13 +474,15 @@ impl Layer for Banks {
 
     fn run(case: &Vec<Call>) -> Result<u64, Difference> {
         let mut both = Both::new();
+        let mut calls = 0;
         for call in case {
             let before = both.ours;
             let primary = both.primary.ours;
             let answer = both.step(call)?;
             count::count(&before, &both.ours, &primary, call, &answer);
+            calls += u64::from(call.is_of_bank());
         }
-        Ok(case.len() as u64)
+        Ok(calls)
     }
 
     fn smaller(case: &Vec<Call>) -> Vec<Vec<Call>> {

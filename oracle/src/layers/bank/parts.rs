@@ -203,7 +203,12 @@ pub fn spelled(case: Vec<Call>) -> Vec<Call> {
         Call::Hand(b) => {
             let used = b.challengers.iter().take(b.challengers_len).enumerate();
             let each = used.flat_map(|(i, h)| hypothesis_parts(i, h));
-            bank_parts(&b).into_iter().chain(each).collect()
+            // of what lies beyond the count, a number that no origin has
+            let beyond = b.challengers.iter().enumerate().skip(b.challengers_len);
+            let junk = beyond
+                .filter(|(_, h)| h.origin > 2)
+                .map(|(i, h)| Call::Set(Part::OfOrigin, i as u8, u32::from(h.origin)));
+            bank_parts(&b).into_iter().chain(each).chain(junk).collect()
         }
         Call::Primary(tracker::Call::Hand(t)) => {
             let parts = tracker::parts(&t.0).into_iter();

@@ -160,3 +160,56 @@ pub fn same_reading(
         (a, b) => a.is_none() && b.is_none(),
     }
 }
+
+#[cfg(test)]
+mod tests {
+    use super::*;
+    use crate::layers::bank::cases::sound_bank;
+    use crate::layers::bank::parts::{set, Part, PARTS};
+    use crate::random::Random;
+    use crate::refusals;
+
+    /// A sound bank with something in every place.
+    fn full() -> Bank {
+        let banks = (1..).map(|seed| sound_bank(&mut Random::new(seed)));
+        let mut b = banks
+            .into_iter()
+            .find(|b| b.challengers_len == 7 && b.log_len == 16 && b.streak_gaps_len > 1)
+            .expect("one of them");
+        (b.has_side, b.has_pending, b.pending) = (true, true, 3);
+        (b.has_last_gap, b.last_gap) = (true, 60.0);
+        for h in &mut b.challengers {
+            (h.origin, h.retain_marks) = (2, 9);
+        }
+        assert_eq!(refusals::bank(&b), Ok(()));
+        b
+    }
+
+    /// No part of a bank can differ unseen. Serials are compared on their own.
+    #[test]
+    fn every_part_is_compared() {
+        let b = full();
+        assert!(same(&b, &manta(&b)) && identical(&b, &b.clone()));
+        for part in PARTS {
+            let mut c = b;
+            set(&mut c, part, 1, 1);
+            if identical(&b, &c) {
+                set(&mut c, part, 1, 0);
+            }
+            assert!(!identical(&b, &c), "{part:?}");
+            let apart = [Part::Started, Part::StartedHigh, Part::OfSerial];
+            assert!(apart.contains(&part) || !same(&c, &manta(&b)), "{part:?}");
+        }
+    }
+
+    /// And none of a challenger's tracker.
+    #[test]
+    fn every_tracker_is_compared() {
+        let b = full();
+        for k in 0..7 {
+            let mut c = b;
+            c.challengers[k].tracker.regime ^= 1;
+            assert!(!same(&c, &manta(&b)) && !identical(&b, &c));
+        }
+    }
+}
