@@ -10,8 +10,8 @@ use Rattle.bank_model.specs.declared.Best.{Best}
 use Rattle.bank_model.specs.declared.Best.the-variants.{Unfound, Found}
 use Rattle.bank_model.specs.Model.{Hyp}
 use Rattle.bank_model.specs.Scores.{above}
-use Rattle.bank_model.specs.Steps.{place, higher, highestFrom}
-use Rattle.bank_model.proofs.Places.{Before, highest-before}
+use Rattle.bank_model.specs.Steps.{Before, place, higher, highestFrom}
+use Rattle.bank_model.proofs.Places.{highest-before}
 use Rattle.station_model.specs.Watch.{firstHighest, higherOf}
 use Rattle.station_model.proofs.Lists.{no}
 
