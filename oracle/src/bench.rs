@@ -318,17 +318,13 @@ fn heard(marks: Vec<f32>) -> Heard {
     h
 }
 
-/// One sequence of calls on a bank of a width, in the Rust, by the inner functions and by the public ones; and a bank passed as often.
+/// One sequence of calls on a bank of a width, in the Rust.
 #[cfg(manta)]
-fn bank_loops(h: &Heard, width: usize, gaps: bool) -> Vec<Loop<'_>> {
-    use crate::hullathan::bank as ours;
+fn rust_loop(h: &Heard, width: usize, gaps: bool) -> Loop<'_> {
     use crate::manta::timing::{SpeedBankConfig, TimingBank};
-    let cfg = SpeedBankConfig {
-        width,
-        switching: false,
-    };
-    let rust = move || {
-        let mut b = TimingBank::new(cfg);
+    let switching = false;
+    Box::new(move || {
+        let mut b = TimingBank::new(SpeedBankConfig { width, switching });
         // a call may exchange the primary; here none does
         let mut lent = h.rust[0].clone();
         for (i, p) in h.rust.iter().enumerate() {
@@ -339,11 +335,17 @@ fn bank_loops(h: &Heard, width: usize, gaps: bool) -> Vec<Loop<'_>> {
             }
         }
         black_box(&b);
-    };
-    let inner = move || {
+    })
+}
+
+/// The same by the inner functions.
+#[cfg(manta)]
+fn inner_loop(h: &Heard, width: usize, gaps: bool) -> Loop<'_> {
+    use crate::hullathan::bank as ours;
+    Box::new(move || {
         let mut b = ours::new(width, false).bank;
         for (i, &p) in h.ours.iter().enumerate() {
-            // Safety: bank and primary are what the library handed back, and the durations lie from 20 to 1,000
+            // Safety: bank and primary are what the library handed back, and the durations lie from 5 to 2,000
             unsafe {
                 b = ours::inner_on_mark(b, p, black_box(h.marks[i]), true).bank;
                 if gaps {
@@ -353,8 +355,14 @@ fn bank_loops(h: &Heard, width: usize, gaps: bool) -> Vec<Loop<'_>> {
             }
         }
         black_box(&b);
-    };
-    let public = move || {
+    })
+}
+
+/// The same by the public calls.
+#[cfg(manta)]
+fn public_loop(h: &Heard, width: usize, gaps: bool) -> Loop<'_> {
+    use crate::hullathan::bank as ours;
+    Box::new(move || {
         let mut b = ours::new(width, false).bank;
         for (i, &p) in h.ours.iter().enumerate() {
             b = ours::on_mark(b, p, black_box(h.marks[i]), true).bank;
@@ -364,22 +372,20 @@ fn bank_loops(h: &Heard, width: usize, gaps: bool) -> Vec<Loop<'_>> {
             }
         }
         black_box(&b);
-    };
-    let passed = move || {
+    })
+}
+
+/// A bank passed as often.
+#[cfg(manta)]
+fn passing_loop(width: usize, times: usize) -> Loop<'static> {
+    use crate::hullathan::bank as ours;
+    Box::new(move || {
         let mut b = ours::new(width, false).bank;
-        for _ in &h.ours {
-            for _ in 0..if gaps { 3 } else { 1 } {
-                b = ours::same(b);
-            }
+        for _ in 0..times * INPUTS {
+            b = ours::same(b);
         }
         black_box(&b);
-    };
-    vec![
-        Box::new(rust),
-        Box::new(inner),
-        Box::new(public),
-        Box::new(passed),
-    ]
+    })
 }
 
 /// How many challengers a bank of a width has on average.
@@ -407,7 +413,13 @@ fn bank_table(what: &str, h: &Heard, gaps: bool) {
     ];
     println!("| {what} | width | challengers | ns | over the Rust |\n|---|---|---|---|---|");
     for width in [2, 8] {
-        let times = medians_of(bank_loops(h, width, gaps), 3);
+        let loops = vec![
+            rust_loop(h, width, gaps),
+            inner_loop(h, width, gaps),
+            public_loop(h, width, gaps),
+            passing_loop(width, if gaps { 3 } else { 1 }),
+        ];
+        let times = medians_of(loops, 3);
         let there = company(h, width);
         for (name, t) in names.iter().zip(&times) {
             println!(
@@ -436,62 +448,77 @@ fn full(width: usize) -> crate::hullathan::bank::Bank {
     b
 }
 
-/// A call on such a bank, handed in anew each time: in the Rust on a copy, and the copy alone.
+/// One call for each input.
+#[cfg(manta)]
+fn each<'a>(f: impl Fn(usize) + 'a) -> Loop<'a> {
+    Box::new(move || (0..INPUTS).for_each(&f))
+}
+
+/// A mark on such a bank, handed in anew each time; in the Rust on a copy.
+#[cfg(manta)]
+fn full_marks(h: &Heard, b: crate::hullathan::bank::Bank) -> [Loop<'_>; 3] {
+    use crate::hullathan::bank as ours;
+    let m = crate::layers::bank::state::manta(&b);
+    let rust = move |i: usize| {
+        let mut b = m.clone();
+        b.on_mark(&h.rust[i], h.marks[i], true);
+        black_box(&b);
+    };
+    // Safety: bank and primary are sound, and the marks lie from 20 to 500
+    let inner = move |i: usize| {
+        black_box(unsafe { ours::inner_on_mark(b, h.ours[i], h.marks[i], true) });
+    };
+    let public = move |i: usize| {
+        black_box(ours::on_mark(b, h.ours[i], h.marks[i], true));
+    };
+    [each(rust), each(inner), each(public)]
+}
+
+/// A gap, in the same way.
+#[cfg(manta)]
+fn full_gaps(h: &Heard, b: crate::hullathan::bank::Bank) -> [Loop<'_>; 3] {
+    use crate::hullathan::bank as ours;
+    let m = crate::layers::bank::state::manta(&b);
+    let rust = move |i: usize| {
+        let mut b = m.clone();
+        b.on_gap(&h.rust[i], h.gaps[i]);
+        black_box(&b);
+    };
+    // Safety: bank and primary are sound, and the gaps lie from 5 to 1,500
+    let inner = move |i: usize| {
+        black_box(unsafe { ours::inner_on_gap(b, h.ours[i], h.gaps[i]) });
+    };
+    let public = move |i: usize| {
+        black_box(ours::on_gap(b, h.ours[i], h.gaps[i]));
+    };
+    [each(rust), each(inner), each(public)]
+}
+
 #[cfg(manta)]
 fn full_table(what: &str, h: &Heard, mark: bool) {
     use crate::hullathan::bank as ours;
-    use crate::layers::bank::state::manta;
     println!("| {what} | challengers | ns |\n|---|---|---|");
+    let names = [
+        "manta's, and a copy of its bank",
+        "the inner function, over C",
+        "the public call, over C",
+        "a copy of manta's bank",
+        "a bank passed to C and back",
+    ];
     for width in [2, 8] {
         let b = full(width);
-        let m = manta(&b);
-        let each = |f: &dyn Fn(usize)| (0..INPUTS).for_each(f);
-        let copy = || each(&|_| drop(black_box(m.clone())));
-        let rust = || {
-            each(&|i| {
-                let mut b = m.clone();
-                match mark {
-                    true => b.on_mark(&h.rust[i], h.marks[i], true),
-                    false => b.on_gap(&h.rust[i], h.gaps[i]),
-                }
-                black_box(&b);
-            })
+        let m = crate::layers::bank::state::manta(&b);
+        let calls = if mark {
+            full_marks(h, b)
+        } else {
+            full_gaps(h, b)
         };
-        // Safety: bank and primary are sound, and the durations lie from 5 to 2,000
-        let inner = || {
-            each(&|i| match mark {
-                true => {
-                    black_box(unsafe { ours::inner_on_mark(b, h.ours[i], h.marks[i], true) });
-                }
-                false => {
-                    black_box(unsafe { ours::inner_on_gap(b, h.ours[i], h.gaps[i]) });
-                }
-            })
+        let copy = move |_| drop(black_box(m.clone()));
+        let passed = move |_| {
+            black_box(ours::same(b));
         };
-        let public = || {
-            each(&|i| match mark {
-                true => {
-                    black_box(ours::on_mark(b, h.ours[i], h.marks[i], true));
-                }
-                false => {
-                    black_box(ours::on_gap(b, h.ours[i], h.gaps[i]));
-                }
-            })
-        };
-        let passed = || {
-            each(&|_| {
-                black_box(ours::same(b));
-            })
-        };
-        let rows: Vec<(&str, Loop)> = vec![
-            ("manta's, and a copy of its bank", Box::new(rust)),
-            ("a copy of manta's bank", Box::new(copy)),
-            ("the inner function, over C", Box::new(inner)),
-            ("the public call, over C", Box::new(public)),
-            ("a bank passed to C and back", Box::new(passed)),
-        ];
-        let (names, loops): (Vec<_>, Vec<_>) = rows.into_iter().unzip();
-        for (name, t) in names.iter().zip(medians_of(loops, 3)) {
+        let all = calls.into_iter().chain([each(copy), each(passed)]);
+        for (name, t) in names.iter().zip(medians_of(all.collect(), 3)) {
             println!("| {name} | {} | {t:.0} |", width - 1);
         }
     }

@@ -1,8 +1,8 @@
 -- What a public call of a bank answers stands in the plain form that leaves; a form that is no bank's is refused. Assumes nothing.
 use mathlib.Core.Path.{_≡_, refl, ap, sym, _∙_, subst}
 use mathlib.Core.Bool.{Bool, true, false, cond}
-use mathlib.Core.List.{List, map}
-use Prim.Native.Nat.{ℕ, zero, suc, _≤_}
+use mathlib.Core.List.{map}
+use Prim.Native.Nat.{ℕ, zero, suc}
 use native.Mathlib.Omega.{arith}
 use lib.Dec.{T, eqb}
 use borrow.Author.Tests.{eq-eqb, ne-eqb}
@@ -11,7 +11,6 @@ use Rattle.ranges.specs.Settings.{standard}
 use Rattle.tracker.specs.declared.SpeedTracker.{SpeedTracker}
 use Rattle.tracker.specs.declared.Told.{Told}
 use Rattle.tracker.specs.Model as Tracked
-use Rattle.tracker.specs.Sound as Tracking
 use Rattle.tracker.specs.Answers.{done, flag, ofTold, ofFlag, unless}
 use Rattle.bank_model.specs.Model as Model
 use Rattle.bank_model.specs.Steps as Steps
@@ -23,9 +22,8 @@ use Rattle.bank.specs.declared.Switched.{Switched}
 use Rattle.bank.specs.View.{view, told}
 use Rattle.bank.specs.Parts.{widest}
 use Rattle.bank.specs.Sound.{sound}
-use Rattle.bank.specs.Answers.{Answers, Hears, Started, Switches, bankThen, widthRefusal, taken}
+use Rattle.bank.specs.Answers.{Answers, Hears, Started, Switches, bankThen, widthRefusal}
 use Rattle.plain.specs.declared.PlainBank.{PlainBank}
-use Rattle.plain.specs.declared.PlainDeparture.{PlainDeparture}
 use Rattle.plain.specs.declared.PlainHypothesis.{PlainHypothesis}
 use Rattle.plain.specs.Plain.{bankOf, plainBank, plainDeparture, isBank, departures}
 use Rattle.plain.proofs.Back.{bank-back, bank-named, departures-back}
@@ -35,7 +33,7 @@ use Rattle.exports.specs.declared.of_bank.BankSwitched.{BankSwitched}
 use Rattle.exports.specs.declared.of_bank.BankChallenger.{BankChallenger}
 use Rattle.exports.specs.Tracker.{code, yes}
 use Rattle.exports.specs.Bank.{BankAnswers, BankHears, BankStarted, BankSwitches, Well, handedOn, heardOn, passedOn, plainThen, switchedOn, takenOf, toldOf}
-use Rattle.exports.proofs.Banking.{a-told, a-taken}
+use Rattle.exports.proofs.Banking.{a-told}
 
 code-unless : (n : ℕ) → code (unless n done) ≡ n
 code-unless zero = refl

@@ -1,5 +1,5 @@
 -- What the plain form of a bank means: numbers for where a hypothesis came from and why it left. Definitions only.
-use mathlib.Core.Bool.{Bool, true, false, cond}
+use mathlib.Core.Bool.{Bool, cond}
 use mathlib.Core.List.{List, map}
 use Prim.Native.Nat.{ℕ}
 use lib.Dec.{eqb, leb}

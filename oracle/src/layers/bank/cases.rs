@@ -479,62 +479,77 @@ fn crowded(random: &mut Random) -> Vec<Call> {
     calls
 }
 
-/// A part of a bank at one of its limits, from either side.
-fn limit(random: &mut Random, b: &mut Bank) {
-    let odd = |random: &mut Random, limits: &[f32]| match random.below(5) {
+/// A number at one of the limits, next to it, or a NaN.
+fn odd(random: &mut Random, limits: &[f32]) -> u32 {
+    match random.below(5) {
         0 => NAN,
         _ => about(random, limits),
-    };
+    }
+}
+
+/// A count of a bank at its limit, from either side.
+fn count_limit(random: &mut Random) -> (Part, u32) {
+    let last = u32::MAX;
+    match random.below(6) {
+        0 => (Part::Width, random.pick(&[0, 1, 8, 9, last])),
+        1 => (Part::Challengers, random.pick(&[7, 8, 9, last])),
+        2 => (Part::StreakLen, random.pick(&[4, 5, last])),
+        3 => (Part::GapsLen, random.pick(&[1, 4, 5, last])),
+        4 => (Part::LogLen, random.pick(&[16, 17, last])),
+        _ => (
+            random.pick(&[Part::Marks, Part::Gaps]),
+            random.pick(&[last - 1, last]),
+        ),
+    }
+}
+
+/// A score or a held duration at its limit, from either side.
+fn number_limit(random: &mut Random) -> (Part, u32) {
     let scores = [-30.0, 0.0];
     let held = [SHORTEST, LONGEST];
+    let (part, limits) = match random.below(6) {
+        0 => (random.pick(&[Part::Score, Part::GapScore]), scores),
+        1 => (random.pick(&[Part::OfScore, Part::OfGapScore]), scores),
+        2 => (Part::Streak, held),
+        3 => (Part::Gap, held),
+        4 => (Part::LastGap, held),
+        _ => (random.pick(&[Part::LogFrom, Part::LogTo]), held),
+    };
+    (part, odd(random, &limits))
+}
+
+/// Another logarithm, next to that of the dit or the dah.
+fn other_logarithm(random: &mut Random, h: &mut Hypothesis) {
+    let x = match random.below(2) {
+        0 => &mut h.ln_lo,
+        _ => &mut h.ln_hi,
+    };
+    let bits = x.to_bits();
+    *x = f32::from_bits(random.pick(&[bits + 1, bits - 1, NAN, INFINITY, MINUS]));
+}
+
+/// A part of a bank at one of its limits, from either side.
+fn limit(random: &mut Random, b: &mut Bank) {
     let i = random.below(8) as u8;
-    let mut put = |part, i, v| super::parts::set(b, part, i, v);
+    let rival = usize::from(i % 2);
     match random.below(17) {
-        0 => put(Part::Width, 0, random.pick(&[0, 1, 8, 9, u32::MAX])),
-        1 => put(Part::Challengers, 0, random.pick(&[7, 8, 9, u32::MAX])),
-        2 => put(Part::StreakLen, 0, random.pick(&[4, 5, u32::MAX])),
-        3 => put(Part::GapsLen, 0, random.pick(&[1, 4, 5, u32::MAX])),
-        4 => put(Part::LogLen, 0, random.pick(&[16, 17, u32::MAX])),
-        5 => {
-            put(Part::HasPending, 0, 1);
-            put(Part::Pending, 0, random.pick(&[0, 1, 2, 7, 8, u32::MAX]));
+        0..=5 => {
+            let (part, v) = count_limit(random);
+            super::parts::set(b, part, 0, v);
         }
-        6 => {
-            let part = random.pick(&[Part::Score, Part::GapScore]);
-            put(part, 0, odd(random, &scores));
-        }
-        7 => {
-            let part = random.pick(&[Part::OfScore, Part::OfGapScore]);
-            put(part, i % 2, odd(random, &scores));
-        }
-        8 => put(Part::Streak, i, odd(random, &held)),
-        9 => put(Part::Gap, i, odd(random, &held)),
-        10 => {
-            put(Part::HasLastGap, 0, 1);
-            put(Part::LastGap, 0, odd(random, &held));
-        }
-        11 => {
-            let part = random.pick(&[Part::LogFrom, Part::LogTo]);
-            put(part, i, odd(random, &held));
-        }
-        12 => put(Part::OfOrigin, i % 2, random.pick(&[2, 3, 255])),
-        13 => {
-            let part = random.pick(&[Part::OfLnLo, Part::OfLnHi]);
-            let h = &b.challengers[usize::from(i % 2)];
-            let old = if part == Part::OfLnLo {
-                h.ln_lo
-            } else {
-                h.ln_hi
-            };
-            let v = random.pick(&[old.to_bits() + 1, old.to_bits() - 1, NAN, INFINITY, MINUS]);
+        6..=11 => {
+            let (part, v) = number_limit(random);
+            b.has_last_gap |= part == Part::LastGap;
             super::parts::set(b, part, i % 2, v);
         }
-        14 => {
-            let part = random.pick(&[Part::Marks, Part::Gaps]);
-            put(part, 0, random.pick(&[u32::MAX - 1, u32::MAX]));
+        12 => {
+            b.has_pending = true;
+            b.pending = random.pick(&[0, 1, 2, 7, 8, usize::MAX]);
         }
-        15 => b.challengers[usize::from(i % 2)].tracker = Plain::default(),
-        _ => tracker::cases::limit(random, &mut b.challengers[usize::from(i % 2)].tracker),
+        13 => b.challengers[rival].origin = random.pick(&[2, 3, 255]),
+        14 => other_logarithm(random, &mut b.challengers[rival]),
+        15 => b.challengers[rival].tracker = Plain::default(),
+        _ => tracker::cases::limit(random, &mut b.challengers[rival].tracker),
     }
 }
 

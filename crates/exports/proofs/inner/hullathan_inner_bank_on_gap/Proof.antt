@@ -1,13 +1,12 @@
 -- `exports::inner::hullathan_inner_bank_on_gap` hands on what the call says. Assumes nothing.
-use mathlib.Core.Path.{_≡_, ap, _∙_}
+use mathlib.Core.Path.{ap, _∙_}
 use Rattle.ranges.specs.Settings.{standard}
 use Rattle.tracker.specs.Model as Tracked
 use Rattle.bank_model.specs.Steps as Steps
 use Rattle.bank.specs.declared.TimingBank.{TimingBank}
-use Rattle.bank.specs.View.{view, told}
+use Rattle.bank.specs.View.{view}
 use Rattle.bank.specs.Parts.{Countable, Sturdy}
-use Rattle.plain.specs.Plain.{bankOf}
-use Rattle.exports.proofs.Banking.{back, read, bank-is, left-is}
+use Rattle.exports.proofs.Banking.{back, read, bank-is}
 use borrow.Author.Needs.{needs}
 use Rattle.exports.proofs.inner.hullathan_inner_bank_on_gap.Statement.{statement}
 use Rattle.exports.proofs.inner.hullathan_inner_bank_on_gap.Tie as tie

@@ -1,5 +1,4 @@
 -- `exports::of_bank::answered` meets its contract. Assumes nothing.
-use mathlib.Core.Path.{_≡_, refl, ap, sym, _∙_}
 use borrow.Author.Needs.{needs}
 use Rattle.exports.proofs.of_bank.answered.Statement.{statement}
 use Rattle.exports.proofs.of_bank.answered.Tie as tie

@@ -1,5 +1,5 @@
 -- `exports::of_bank::challenger` meets its contract. Assumes nothing.
-use mathlib.Core.Path.{_≡_, refl, ap, sym, _∙_}
+use mathlib.Core.Path.{ap, sym, _∙_}
 use mathlib.Core.Bool.{true}
 use Rattle.bank.specs.declared.Place.{Place}
 use Rattle.bank.specs.Answers.{placed}

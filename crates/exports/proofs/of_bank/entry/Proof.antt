@@ -1,5 +1,5 @@
 -- `exports::of_bank::entry` meets its contract. Assumes nothing.
-use mathlib.Core.Path.{_≡_, refl, ap, sym, _∙_}
+use mathlib.Core.Path.{ap, sym, _∙_}
 use Rattle.bank.specs.declared.Logged.{Logged}
 use Rattle.bank.specs.Answers.{ofLogged}
 use Rattle.exports.specs.Bank.{logged}

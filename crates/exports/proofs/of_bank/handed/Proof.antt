@@ -1,5 +1,5 @@
 -- `exports::of_bank::handed` meets its contract. Assumes nothing.
-use mathlib.Core.Path.{_≡_, refl, ap, sym, _∙_}
+use mathlib.Core.Path.{sym, _∙_}
 use Rattle.exports.proofs.Rivals.{done-with, refused-with}
 use borrow.Author.Needs.{needs}
 use Rattle.exports.proofs.of_bank.handed.Statement.{statement}

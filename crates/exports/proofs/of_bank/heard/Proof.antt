@@ -1,5 +1,4 @@
 -- `exports::of_bank::heard` meets its contract. Assumes nothing.
-use mathlib.Core.Path.{_≡_, refl, ap, sym, _∙_}
 use borrow.Author.Needs.{needs}
 use Rattle.exports.proofs.of_bank.heard.Statement.{statement}
 use Rattle.exports.proofs.of_bank.heard.Tie as tie

@@ -1,7 +1,6 @@
 -- `exports::of_bank::hullathan_bank_clear` hands on what the call says. Assumes nothing.
-use mathlib.Core.Path.{_≡_, refl, ap, sym, _∙_}
+use mathlib.Core.Path.{sym, _∙_}
 use Rattle.ranges.specs.Settings.{standard}
-use Rattle.tracker.specs.Model as Tracked
 use Rattle.bank_model.specs.Steps as Steps
 use Rattle.bank.specs.declared.TimingBank.{TimingBank}
 use Rattle.bank.specs.View.{view}

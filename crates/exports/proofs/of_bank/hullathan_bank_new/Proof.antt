@@ -1,5 +1,4 @@
 -- `exports::of_bank::hullathan_bank_new` hands on what the call says. Assumes nothing.
-use mathlib.Core.Path.{_≡_, refl, ap, sym, _∙_}
 use Rattle.exports.proofs.Rivals.{started}
 use borrow.Author.Needs.{needs}
 use Rattle.exports.proofs.of_bank.hullathan_bank_new.Statement.{statement}

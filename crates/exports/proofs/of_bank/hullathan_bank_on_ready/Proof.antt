@@ -1,5 +1,5 @@
 -- `exports::of_bank::hullathan_bank_on_ready` hands on what the call says. Assumes nothing.
-use mathlib.Core.Path.{_≡_, refl, ap, sym, _∙_}
+use mathlib.Core.Path.{sym, _∙_}
 use Rattle.ranges.specs.Settings.{standard}
 use Rattle.tracker.specs.Model as Tracked
 use Rattle.bank_model.specs.Steps as Steps

@@ -1,5 +1,5 @@
 -- `exports::of_bank::no_challenger` meets its contract. Assumes nothing.
-use mathlib.Core.Path.{_≡_, refl, ap, sym, _∙_}
+use mathlib.Core.Path.{ap}
 use mathlib.Core.Bool.{false}
 use Rattle.exports.proofs.Rivals.{a-challenger}
 use borrow.Author.Needs.{needs}

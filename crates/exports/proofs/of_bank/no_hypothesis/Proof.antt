@@ -1,5 +1,5 @@
 -- `exports::of_bank::no_hypothesis` meets its contract. Assumes nothing.
-use mathlib.Core.Path.{_≡_, refl, ap, sym, _∙_}
+use mathlib.Core.Path.{ap}
 use lib.Ieee.{ofBits}
 use Rattle.exports.proofs.Rivals.{with-tracker}
 use borrow.Author.Needs.{needs}

@@ -1,5 +1,5 @@
 -- `exports::of_bank::no_record` meets its contract. Assumes nothing.
-use mathlib.Core.Path.{_≡_, refl, ap, sym, _∙_}
+use mathlib.Core.Path.{refl}
 use lib.Ieee.{ofBits}
 use Rattle.exports.proofs.of_bank.no_record.Statement.{statement}
 use Rattle.exports.proofs.of_bank.no_record.Tie as tie

@@ -1,5 +1,5 @@
 -- `exports::of_bank::tally` meets its contract. Assumes nothing.
-use mathlib.Core.Path.{_≡_, refl, ap, sym, _∙_}
+use mathlib.Core.Path.{ap, sym}
 use Rattle.bank.specs.declared.Tally.{Tally}
 use Rattle.bank.specs.Answers.{ofTally}
 use Rattle.exports.specs.Bank.{tallied}

@@ -1,6 +1,5 @@
 -- `plain::from::is_bank` meets its contract. Assumes nothing.
-use mathlib.Core.Path.{_≡_, refl, sym, ap, _∙_}
-use mathlib.Core.List.{List}
+use mathlib.Core.Path.{_≡_, ap, _∙_}
 use Prim.Native.Nat.{_-_, _≤_}
 use native.Mathlib.Omega.{arith}
 use lib.ListN.{length, take}
@@ -8,7 +7,6 @@ use borrow.Author.Needs.{needs}
 use Rattle.marks.specs.Lists.{all}
 use Rattle.marks.proofs.Testing.{Testing, test-begins, test-turns, test-fails, test-ends, tested, places}
 use Rattle.marks.proofs.Shifting.{unmapped}
-use Rattle.plain.specs.declared.PlainHypothesis.{PlainHypothesis}
 use Rattle.plain.specs.Plain.{named, isBank}
 use Rattle.plain.proofs.Filling.{take-capped, capped-at}
 use Rattle.plain.proofs.from.is_bank.Statement.{statement}

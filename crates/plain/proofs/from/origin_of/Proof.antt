@@ -2,7 +2,6 @@
 use Prim.Native.Nat.{ℕ}
 use mathlib.Core.Path.{sym, ap}
 use borrow.Author.Tests.{ne-eqb}
-use Rattle.bank_model.specs.declared.Origin.{Origin}
 use Rattle.plain.specs.Plain.{originOf}
 use Rattle.plain.proofs.from.origin_of.Statement.{statement}
 use Rattle.plain.proofs.from.origin_of.Tie as tie
