@@ -1,6 +1,5 @@
 -- What the parts of the code ask of a station: soundness, part by part. Definitions only.
 use mathlib.Core.Path.{_≡_}
-use mathlib.Core.Bool.{true}
 use Prim.Native.Nat.{ℕ, _+_, _≤_, _<_}
 use lib.Dec.{T, eqb, ltb}
 use lib.ListN.{length}

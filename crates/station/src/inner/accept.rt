@@ -70,18 +70,24 @@ pub(crate) fn tally(was: Counts, left: [Departure; 9], n: usize) -> Counts
     c
 }
 
+// No one leaves.
+pub(crate) fn nobody() -> [Departure; 9] {
+    let d = Departure {
+        serial: 0,
+        cause: Cause::Cleared,
+    };
+    [d; 9]
+}
+
 // A bank that no one left.
 pub(crate) fn stay(b: TimingBank) -> Changed
     requires { ⌜ Sturdy b ⌝ }
     ensures { λ r. ⌜ Left r (stay (Banked.view b)) ⌝ }
 {
-    let d = Departure {
-        serial: 0,
-        cause: Cause::Cleared,
-    };
+    let left = nobody();
     Changed {
         bank: b,
-        left: [d; 9],
+        left,
         left_len: 0,
     }
 }

@@ -18,7 +18,6 @@ use tracker::inner::begin::seed_wpm;
 use tracker::inner::gaps::set_ratio_hint;
 use tracker::inner::mark as learnt;
 use tracker::inner::speed::dit_estimate;
-ghost use mathlib.Core.Path.{_≡_};
 ghost use mathlib.Core.Bool.{false};
 ghost use lib.Dec.{T};
 ghost use lib.Ieee.Positive.{positive};
