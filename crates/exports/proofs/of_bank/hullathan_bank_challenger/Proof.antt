@@ -2,6 +2,7 @@
 use mathlib.Core.Path.{ap, sym, _∙_}
 use Rattle.bank.specs.declared.TimingBank.{TimingBank}
 use Prim.Native.Nat.{ℕ}
+use Rattle.ranges.specs.Settings.{standard}
 use lib.ListN.{getElem?, take}
 use Rattle.bank.specs.Answers.{bankThen, showing, ofChallenger}
 use Rattle.bank.proofs.Answering.{of-told}
