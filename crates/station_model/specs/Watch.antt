@@ -243,7 +243,7 @@ pub record Watch (k : Settings) (width : ℕ) (switching : Bool) (calls : List C
   pub primary-dit : ready (now .primary) ≡ true → DitIn k (now .primary)
   pub challenger-dits : (h : Hyp) → List·Memᴰ h (now .bank .challengers) → DitIn k (h .tracker)
 
--- the form in which a function that hands out a fresh station can promise it
+-- the theorem on the definitions' own calls; what a program promises of its calls is `Watched` of `station/specs/Answers`
 pub record Promised (k : Settings) (width : ℕ) (switching : Bool) : Type 0 where
   pub all : (events : List Event) → AllCarry events → Watch k width switching (callsOf k (fresh width switching) events) (stationAfter k (fresh width switching) events)
 
@@ -267,7 +267,7 @@ pub record Stepped (k : Settings) (s : Station) (e : Event) (t : Station) (a : A
   pub station : t ≡ step k s e .station
   pub answer : SameAnswer a (step k s e .answer)
 
--- what refusal 1 asks of a pending choice: it is a challenger's place, and the primary is ready
+-- what holds of a pending choice in every station of a watch: it is a challenger's place, and the primary is ready (refusal 1 asks the second only at a switch)
 pub record Settled (s : Station) : Type 0 where
   pub inside : (i : ℕ) → s .bank .pending ≡ some i → i < length (s .bank .challengers)
   pub unready : ready (s .primary) ≡ false → s .bank .pending ≡ none
