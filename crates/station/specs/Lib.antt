@@ -1,2 +1,4 @@
 pub mod View
 pub mod Parts
+pub mod Sound
+pub mod Answers

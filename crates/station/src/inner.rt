@@ -1,3 +1,7 @@
 // What the calls do, for stations that are sound: each function asks what it needs.
 pub mod accept;
 pub mod events;
+pub mod fresh;
+pub mod readers;
+pub mod refusals;
+pub mod sound;

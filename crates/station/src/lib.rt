@@ -7,6 +7,7 @@ use station_model::Counts;
 use tracker::SpeedTracker;
 use tracker::Told;
 
+pub mod calls;
 pub mod inner;
 
 // A station: the primary and its serial, its rivals, how many left by cause, how many calls were accepted.

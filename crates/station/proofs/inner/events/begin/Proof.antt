@@ -1,6 +1,6 @@
 -- `station::inner::events::begin` meets its contract. Assumes nothing.
 use Rattle.marks.proofs.Shifting.{unmapped}
-use mathlib.Core.Path.{_≡_, refl, ap, sym, _∙_}
+use mathlib.Core.Path.{_≡_}
 use native.Mathlib.Omega.{arith}
 use lib.ListN.{length}
 use Rattle.ranges.specs.Settings.{standard}

@@ -1,5 +1,5 @@
 -- `station::inner::events::finish` meets its contract. Assumes nothing.
-use mathlib.Core.Path.{_≡_, refl, ap, sym, _∙_}
+use mathlib.Core.Path.{sym, _∙_}
 use Rattle.ranges.specs.Settings.{standard}
 use Rattle.station.proofs.Acting.{turn, finish-is, finish-not}
 use Rattle.station.specs.View.{view}

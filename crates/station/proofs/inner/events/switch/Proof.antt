@@ -1,6 +1,5 @@
 -- `station::inner::events::switch` meets its contract. Assumes nothing.
 use mathlib.Core.Bool.{true, false}
-use Rattle.ranges.specs.Settings.{standard}
 use Rattle.station.proofs.Acting.{turn, switch-is}
 use Rattle.station.specs.View.{view}
 use Rattle.bank.specs.Switching.{viewTaken}
