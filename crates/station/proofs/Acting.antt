@@ -27,11 +27,11 @@ use Rattle.station_model.specs.Station as Model
 use Rattle.station.specs.declared.Station.{Station}
 use Rattle.station.specs.declared.Outcome.{Outcome}
 use Rattle.station.specs.View.{view}
-use Rattle.station.specs.Parts.{Countable, Fair, Solid, Open, Stands}
+use Rattle.station.specs.Parts.{AtMost, Allowed, Solid, Open, Stands}
 
 -- ---- an accepted call
 
-pub counts-small : (s : Station) → Solid s → Open s → Countable 4294967296 (s .counts)
+pub counts-small : (s : Station) → Solid s → Open s → AtMost 4294967296 (s .counts)
 counts-small s k o =
     let b = k .books .balance in
     let f = k .books .few in
@@ -118,8 +118,8 @@ switch-is k w t b e f r =
 
 -- ---- the event that a call was given
 module _ (s : Station) {e f : Event} (q : e ≡ f) where
-  pub event-fair : Fair s e → Fair s f
-  event-fair k = subst (λ (x : Event). Fair s x) q k
+  pub event-fair : Allowed s e → Allowed s f
+  event-fair k = subst (λ (x : Event). Allowed s x) q k
 
   pub event-is : (r : Outcome) → Stands r (accepted (view s) (acted standard (view s) f)) → Stands r (accepted (view s) (acted standard (view s) e))
   event-is r k = subst (λ (x : Event). Stands r (accepted (view s) (acted standard (view s) x))) (sym q) k

@@ -12,7 +12,7 @@ use Rattle.station_model.specs.declared.Event.the-variants.{Mark, Gap, Finish, 
 use Rattle.station_model.specs.Station.{full, fault, refusal}
 use Rattle.station.specs.declared.Station.{Station}
 use Rattle.station.specs.View.{view}
-use Rattle.station.specs.Parts.{Open, Fair}
+use Rattle.station.specs.Parts.{Open, Allowed}
 use Rattle.station.specs.Sound.{sound, choiceSound}
 use Rattle.station.specs.Answers.{callRefusal}
 
@@ -67,7 +67,7 @@ module _ (s : Station) (e : Event) where
         accepted = leb-false 4294967295 (s .accepted) (n .1 .1);
       }
 
-fair-of : (s : Station) (e : Event) → choiceSound s e ≡ true → fault e ≡ 0 → Fair s e
+fair-of : (s : Station) (e : Event) → choiceSound s e ≡ true → fault e ≡ 0 → Allowed s e
 fair-of s (Mark d live) q z = good-duration d z
 fair-of s (Gap d) q z = good-duration d z
 fair-of s Finish q z = tt
@@ -76,5 +76,5 @@ fair-of s (Hint r) q z = tt
 fair-of s Clear q z = tt
 fair-of s Switch q z = chosen-of (s .bank .«has_pending») (s .primary .pair .ready) q
 
-pub accepted-fair : (s : Station) (e : Event) → Accepted s e → Fair s e
+pub accepted-fair : (s : Station) (e : Event) → Accepted s e → Allowed s e
 accepted-fair s e k = fair-of s e (k .choice) (k .fault)

@@ -12,7 +12,7 @@ use Rattle.bank_model.specs.declared.Departure.{Departure}
 use Rattle.station_model.specs.declared.Counts.{Counts}
 use Rattle.station_model.specs.Station.{ind, isCause, ofCause, tallied}
 use Rattle.station_model.proofs.Books.{by-cause, cause-append}
-use Rattle.station.specs.Parts.{Countable, oneMore}
+use Rattle.station.specs.Parts.{AtMost, oneMore}
 
 -- ---- one more by each cause
 module _ (c : Counts) where
@@ -86,7 +86,7 @@ module _ (was : Counts) (left : List Departure) (n : ℕ) where
       t .is ∙ ap (λ (j : ℕ). tallied was (take j left)) e
 
   -- the counts stay far below the largest u64
-  pub tally-small : (c : Counts) (i : ℕ) → n ≤ 9 → n ≤ length left → Countable 4294967296 was → Tallying c i → Countable 8589934592 c
+  pub tally-small : (c : Counts) (i : ℕ) → n ≤ 9 → n ≤ length left → AtMost 4294967296 was → Tallying c i → AtMost 8589934592 c
   tally-small c i h k s t =
       let u = t .upto in
       let m = length-take-le i left (omega arith) in

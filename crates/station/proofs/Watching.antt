@@ -1,7 +1,7 @@
 -- Demand 3 of the program: what the contract of `call` says is all that it takes. Assumes nothing.
 use mathlib.Core.Path.{_≡_, refl, ap, sym, _∙_, subst}
 use mathlib.Core.Bool.{Bool, true, false, cond, not, _&&_, true≢false}
-use mathlib.Core.List.{List, [], List·Permᴰ, Permᴰ·refl}
+use mathlib.Core.List.{List, [], _∷_, List·Permᴰ, Permᴰ·refl}
 use mathlib.Core.Option.{none}
 use Prim.Native.Nat.{ℕ, zero, suc, _≤_, _<_}
 use native.Mathlib.Omega.{arith}
@@ -22,7 +22,7 @@ use Rattle.station_model.specs.declared.Code.{Code}
 use Rattle.station_model.specs.declared.Code.the-variants as Codes
 use Rattle.station_model.specs.Station.{number, taken, fresh, refusal, step}
 use Rattle.station_model.specs.Station as Model
-use Rattle.station_model.specs.Watch.{SameAnswer, Settled, Stepped}
+use Rattle.station_model.specs.Watch.{SameAnswer, Settled, Stepped, Ran, RanFrom}
 use Rattle.station_model.proofs.Whole.{program-watch}
 use Rattle.station.specs.declared.Station.{Station}
 use Rattle.station.specs.declared.Outcome.{Outcome}
@@ -103,10 +103,25 @@ module _ (s : Station) (e : Event) (r : Outcome) (t : T (sound standard s)) (k :
       go (suc n) z = refused-after n z
 
 -- ---- every list of calls
+still-sound : (s : Station) (e : Event) (r : Outcome) → T (sound standard s) → Called standard s e r → T (sound standard (r .station))
+still-sound s e r t c = go (callRefusal standard s e) refl
+  where
+    go : (n : ℕ) → callRefusal standard s e ≡ n → T (sound standard (r .station))
+    go zero z = c .still z
+    go (suc n) z = subst (λ (x : Station). T (sound standard x)) (sym (c .kept (λ y. (let x : _≡_ {A = ℕ} (suc n) 0 = sym z ∙ y in omega arith)) .0)) t
+
+sound-run : (s : Station) → T (sound standard s) → (calls : List (Ran Station Outcome)) (now : Station) → RanFrom stationOf (Called standard) s calls now → T (sound standard now)
+unfolding RanFrom
+sound-run s t [] now q = subst (λ (x : Station). T (sound standard x)) (sym q) t
+sound-run s t (c ∷ calls) now q =
+    subst (λ (x : Station). T (sound standard x)) (sym (q .2))
+    (still-sound (c .before) (c .event) (c .returned) (sound-run s t calls (c .before) (q .0)) (q .1 .1))
+
 pub watched : (width : ℕ) (switching : Bool) (s : Station) → T (sound standard s) → view s ≡ fresh width switching → Watched standard width switching s
 watched width switching s t b = record {
   holds = program-watch standard standard-good standard-held width switching stationOf view (λ (r : Outcome). answered (r .answer)) (Called standard) (λ (x : Station). T (sound standard x))
       (λ x e r t k c d. after x e r t k d) s t b;
+  stays = sound-run s t;
 }
 
 -- ---- a start

@@ -23,7 +23,7 @@ use Rattle.station.specs.declared.Outcome.{Outcome}
 use Rattle.station.specs.View.{view, outcome}
 
 -- no count is above n
-pub record Countable (n : ℕ) (c : Counts) : Type 0 where
+pub record AtMost (n : ℕ) (c : Counts) : Type 0 where
   pub twins : c .twins ≤ n
   pub outscored : c .outscored ≤ n
   pub aged : c .aged ≤ n
@@ -58,14 +58,14 @@ pub record Open (s : Station) : Type 0 where
   pub accepted : s .accepted < 4294967295
 
 -- refusals 5 to 8 do not hold, nor "a choice pending and the primary unready" at a switch
-abbrev pub Fair : Station → Event → Type 0
-Fair s (Mark d live) = T (duration d)
-Fair s (Gap d) = T (duration d)
-Fair s Finish = Unit {0}
-Fair s (Seed v) = T (positive v)
-Fair s (Hint r) = Unit {0}
-Fair s Clear = Unit {0}
-Fair s Switch = Chosen (s .bank) (s .primary)
+abbrev pub Allowed : Station → Event → Type 0
+Allowed s (Mark d live) = T (duration d)
+Allowed s (Gap d) = T (duration d)
+Allowed s Finish = Unit {0}
+Allowed s (Seed v) = T (positive v)
+Allowed s (Hint r) = Unit {0}
+Allowed s Clear = Unit {0}
+Allowed s Switch = Chosen (s .bank) (s .primary)
 
 -- an outcome is as m says, of a sound primary and a sound bank
 pub record Stands (r : Outcome) (m : Model.Outcome) : Type 0 where

@@ -22,11 +22,11 @@ ghost use Rattle.bank.specs.View as Banked;
 ghost use Rattle.bank.specs.Parts.{Left, Sturdy};
 ghost use Rattle.station_model.specs.Station.{accepted, tallied};
 ghost use Rattle.station.specs.View.{view};
-ghost use Rattle.station.specs.Parts.{Countable, Open, Solid, Stands, oneMore};
+ghost use Rattle.station.specs.Parts.{AtMost, Open, Solid, Stands, oneMore};
 
 // One more that left by this cause.
 pub(crate) fn count_one(c: Counts, cause: Cause) -> Counts
-    requires { ⌜ Countable 8589934592 c ⌝ }
+    requires { ⌜ AtMost 8589934592 c ⌝ }
     ensures { λ r. ⌜ r ≡ oneMore c cause ⌝ }
 {
     match cause {
@@ -55,7 +55,7 @@ pub(crate) fn count_one(c: Counts, cause: Cause) -> Counts
 
 // The counts after the first n of those that left.
 pub(crate) fn tally(was: Counts, left: [Departure; 9], n: usize) -> Counts
-    requires { ⌜ Countable 4294967296 was ⌝ }
+    requires { ⌜ AtMost 4294967296 was ⌝ }
     requires { ⌜ n ≤ 9 ⌝ }
     ensures { λ r. ⌜ r ≡ tallied was (take n left) ⌝ }
 {

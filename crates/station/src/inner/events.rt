@@ -29,7 +29,7 @@ ghost use Rattle.bank.specs.Switching.{Chosen};
 ghost use Rattle.station_model.specs.declared.Event.the-variants.{Mark, Gap, Finish, Seed, Hint, Clear, Switch};
 ghost use Rattle.station_model.specs.Station.{accepted, acted, learntAct, liveAct, readyAct};
 ghost use Rattle.station.specs.View.{view};
-ghost use Rattle.station.specs.Parts.{Fair, Open, Solid, Stands};
+ghost use Rattle.station.specs.Parts.{Allowed, Open, Solid, Stands};
 
 // The primary became ready, and is p: the bank hears of it, with the recent marks, oldest first.
 pub(crate) fn begin(s: Station, p: SpeedTracker) -> Outcome
@@ -133,11 +133,11 @@ pub(crate) fn seed(s: Station, wpm: f32) -> Outcome
     let b = s.bank;
     let was = p.pair;
     let q = seed_wpm(p, wpm);
-    let t = clear(b);
+    let gone = clear(b);
     if was.ready {
-        return accept(s, q, s.serial, t, Code::Done);
+        return accept(s, q, s.serial, gone, Code::Done);
     }
-    accept(s, q, s.serial, t, Code::BecameReady)
+    accept(s, q, s.serial, gone, Code::BecameReady)
 }
 
 // A hint, of the primary alone.
@@ -148,8 +148,8 @@ pub(crate) fn hint(s: Station, ratio: f32) -> Outcome
     let p = s.primary;
     let b = s.bank;
     let q = set_ratio_hint(p, ratio);
-    let t = stay(b);
-    accept(s, q, s.serial, t, Code::Done)
+    let kept = stay(b);
+    accept(s, q, s.serial, kept, Code::Done)
 }
 
 // A clear, of the bank alone.
@@ -196,7 +196,7 @@ pub(crate) fn mark(s: Station, d: f32, live: bool) -> Outcome
 // What an event does.
 pub fn step(s: Station, e: Event) -> Outcome
     requires { ⌜ Solid s × Open s ⌝ }
-    requires { ⌜ Fair s e ⌝ }
+    requires { ⌜ Allowed s e ⌝ }
     ensures { λ r. ⌜ Stands r (accepted (view s) (acted standard (view s) e)) ⌝ }
 {
     match e {

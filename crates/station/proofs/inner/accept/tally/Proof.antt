@@ -4,14 +4,14 @@ use Prim.Native.Nat.{_-_, _≤_}
 use native.Mathlib.Omega.{arith}
 use lib.ListN.{length}
 use Rattle.marks.proofs.Shifting.{unmapped}
-use Rattle.station.specs.Parts.{Countable}
+use Rattle.station.specs.Parts.{AtMost}
 use Rattle.station.proofs.Tallying.{Tallying, tally-begins, tally-turns, tally-ends, tally-small}
 use borrow.Author.Needs.{needs}
 use Rattle.station.proofs.inner.accept.tally.Statement.{statement}
 use Rattle.station.proofs.inner.accept.tally.Tie as tie
 
 abbrev Inv-loop : tie.InvT-loop
-Inv-loop n left c₀ i₀ c i = ((n ≤ 9) × (length left ≡ 9)) × (Countable 4294967296 c₀ × Tallying c₀ left n c i)
+Inv-loop n left c₀ i₀ c i = ((n ≤ 9) × (length left ≡ 9)) × (AtMost 4294967296 c₀ × Tallying c₀ left n c i)
 
 abbrev μ-loop : tie.MeasureT-loop
 μ-loop n left c₀ i₀ c i = n - i
