@@ -2,6 +2,7 @@
 //! refusal, and leaves its result behind the reference; after a refusal what stood there is untouched.
 
 pub mod bank;
+pub mod station;
 
 pub mod numbers {
     mod c {

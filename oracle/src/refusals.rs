@@ -1,6 +1,7 @@
 //! The refusals of document 01, "Refusals in checking order", written from the paper: what the library must refuse, and by which number.
 
 use crate::hullathan::bank::{Bank, Hypothesis, Record};
+use crate::hullathan::station::Station;
 use crate::hullathan::tracker::SpeedTracker;
 use crate::log01;
 
@@ -166,6 +167,48 @@ pub fn counts(b: &Bank) -> Result<(), u8> {
     }
 }
 
+/// The serials that a station holds: the primary's, then the challengers'.
+pub fn serials(s: &Station) -> Vec<u64> {
+    let rivals = &s.bank.challengers[..s.bank.challengers_len.min(8)];
+    std::iter::once(s.serial)
+        .chain(rivals.iter().map(|h| h.serial))
+        .collect()
+}
+
+/// How many hypotheses are held or have left; they may be more than 64 bits count.
+pub fn booked(s: &Station) -> u128 {
+    let left: u128 = s.counts.iter().map(|&n| u128::from(n)).sum();
+    s.bank.challengers_len as u128 + left
+}
+
+/// 1, of a station: "a serial above started or held twice, started above the accepted calls, counts out of balance".
+pub fn station(s: &Station) -> Result<(), u8> {
+    tracker(&s.primary)?;
+    bank(&s.bank)?;
+    let started = s.bank.started;
+    let mut held = serials(s);
+    held.sort_unstable();
+    let sound = held.iter().all(|&n| n <= started)
+        && held.windows(2).all(|w| w[0] != w[1])
+        && started <= s.accepted
+        && u128::from(started) == booked(s);
+    if sound {
+        Ok(())
+    } else {
+        Err(1)
+    }
+}
+
+/// 2: ".. or the station as many accepted calls".
+pub fn calls(s: &Station) -> Result<(), u8> {
+    counts(&s.bank)?;
+    if s.accepted >= 4_294_967_295 {
+        Err(2)
+    } else {
+        Ok(())
+    }
+}
+
 /// 3: "A fresh bank or station is wanted with width above 8".
 pub fn width(n: usize) -> Result<(), u8> {
     if n > 8 {
@@ -240,6 +283,44 @@ mod tests {
         let counted = |n| counts(&Bank { gaps_seen: n, ..b });
         assert_eq!(
             (counted(4_294_967_294), counted(4_294_967_295)),
+            (Ok(()), Err(2))
+        );
+    }
+
+    /// The books of a station, each clause at its limit.
+    #[test]
+    fn a_station_at_its_limits() {
+        let mut s = Station {
+            counts: [1, 0, 2, 0, 1],
+            accepted: 5,
+            serial: 5,
+            ..Station::default()
+        };
+        (s.bank.width, s.bank.challengers_len, s.bank.started) = (2, 1, 5);
+        let h = &mut s.bank.challengers[0];
+        h.tracker.pair.ready = true;
+        (h.tracker.pair.lo, h.tracker.pair.hi) = (60.0, 180.0);
+        (h.ln_lo, h.ln_hi) = (log01::ln(60.0).unwrap(), log01::ln(180.0).unwrap());
+        assert_eq!((station(&s), calls(&s)), (Ok(()), Ok(())));
+        let with = |f: fn(&mut Station)| {
+            let mut t = s;
+            f(&mut t);
+            station(&t)
+        };
+        assert_eq!(with(|s| s.serial = 6), Err(1));
+        assert_eq!(with(|s| s.serial = 0), Err(1));
+        assert_eq!(with(|s| s.bank.challengers[0].serial = 6), Err(1));
+        assert_eq!(with(|s| s.bank.challengers[1].serial = 5), Ok(()));
+        assert_eq!(with(|s| s.accepted = 4), Err(1));
+        assert_eq!(with(|s| s.counts[4] = 2), Err(1));
+        assert_eq!(with(|s| s.counts[4] = 0), Err(1));
+        assert_eq!(
+            with(|s| s.counts = [4 + (1 << 63), 1 << 63, 0, 0, 0]),
+            Err(1)
+        );
+        let accepted = |n| calls(&Station { accepted: n, ..s });
+        assert_eq!(
+            (accepted(4_294_967_294), accepted(4_294_967_295)),
             (Ok(()), Err(2))
         );
     }

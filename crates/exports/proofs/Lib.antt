@@ -3,3 +3,4 @@ pub mod Classes
 pub mod Handing
 pub mod Banking
 pub mod Rivals
+pub mod Stations

@@ -35,7 +35,7 @@ use Rattle.exports.specs.Tracker.{code, yes}
 use Rattle.exports.specs.Bank.{BankAnswers, BankHears, BankStarted, BankSwitches, Well, handedOn, heardOn, passedOn, plainThen, switchedOn, takenOf, toldOf}
 use Rattle.exports.proofs.Banking.{a-told}
 
-code-unless : (n : ℕ) → code (unless n done) ≡ n
+pub code-unless : (n : ℕ) → code (unless n done) ≡ n
 code-unless zero = refl
 code-unless (suc n) = refl
 

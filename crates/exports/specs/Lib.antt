@@ -2,3 +2,4 @@ pub mod Answers
 pub mod Sender
 pub mod Tracker
 pub mod Bank
+pub mod Station

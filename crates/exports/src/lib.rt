@@ -4,4 +4,5 @@ pub mod inner;
 pub mod of_bank;
 pub mod of_numbers;
 pub mod of_sender;
+pub mod of_station;
 pub mod of_tracker;

@@ -8,6 +8,8 @@ pub mod numbers;
 #[cfg(manta)]
 pub mod sender;
 #[cfg(manta)]
+pub mod station;
+#[cfg(manta)]
 pub mod tracker;
 
 /// Runs a layer from a seed up to a limit, and prints what was seen. Whether nothing was wrong.
@@ -26,10 +28,11 @@ pub struct Entry {
 /// The layers beside manta's Rust; without it nothing is run.
 #[cfg(manta)]
 mod beside_manta {
-    use super::{bank, report, sender, tracker, Report};
+    use super::{bank, report, sender, station, tracker, Report};
 
     pub const BANK: Report = report::<bank::Banks>;
     pub const SENDER: Report = report::<sender::Sender>;
+    pub const STATION: Report = report::<station::Stations>;
     pub const TRACKER: Report = report::<tracker::Tracker>;
 }
 
@@ -39,6 +42,7 @@ mod beside_manta {
 
     pub const BANK: Report = |_, _| false;
     pub const SENDER: Report = |_, _| false;
+    pub const STATION: Report = |_, _| false;
     pub const TRACKER: Report = |_, _| false;
 }
 
@@ -66,5 +70,11 @@ pub const LAYERS: &[Entry] = &[
         gate: 60,
         needs_manta: true,
         report: beside_manta::BANK,
+    },
+    Entry {
+        name: "station",
+        gate: 60,
+        needs_manta: true,
+        report: beside_manta::STATION,
     },
 ];

@@ -366,7 +366,7 @@ fn any(random: &mut Random) -> Call {
 }
 
 /// A sound bank and a primary handed in, and some calls of them.
-fn handed(random: &mut Random) -> Vec<Call> {
+pub fn handed(random: &mut Random) -> Vec<Call> {
     let mut calls = Vec::new();
     for _ in 0..3 {
         let p = primary(random);
@@ -399,7 +399,7 @@ fn exactly(primary: f32, lead: f32) -> f32 {
 }
 
 /// Challengers of equal or nearly equal scores about the lead or the distance that decides, and a mark that moves none of them.
-fn contested(random: &mut Random) -> Vec<Call> {
+pub fn contested(random: &mut Random) -> Vec<Call> {
     let mut b = sound_bank(random);
     let mut p = primary(random);
     (p.pair.ready, p.pair.lo, p.pair.hi) = (true, 50.0, 150.0);
@@ -444,7 +444,7 @@ fn contested(random: &mut Random) -> Vec<Call> {
 }
 
 /// A full bank, three marks on a side, and the fourth: the candidate replaces one, or is dropped.
-fn crowded(random: &mut Random) -> Vec<Call> {
+pub fn crowded(random: &mut Random) -> Vec<Call> {
     let mut b = sound_bank(random);
     let mut p = primary(random);
     (p.pair.ready, p.pair.lo, p.pair.hi) = (true, 60.0, 180.0);
@@ -529,7 +529,7 @@ fn other_logarithm(random: &mut Random, h: &mut Hypothesis) {
 }
 
 /// A part of a bank at one of its limits, from either side.
-fn limit(random: &mut Random, b: &mut Bank) {
+pub fn limit(random: &mut Random, b: &mut Bank) {
     let i = random.below(8) as u8;
     let rival = usize::from(i % 2);
     match random.below(17) {

@@ -1,8 +1,8 @@
 //! The bank of rivals, beside manta's `TimingBank` with the refusals of document 01 before it, and serials and departures beside it.
 
-mod cases;
+pub(crate) mod cases;
 mod count;
-mod follow;
+pub(crate) mod follow;
 mod parts;
 pub(crate) mod state;
 

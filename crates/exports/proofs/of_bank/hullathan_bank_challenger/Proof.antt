@@ -1,5 +1,6 @@
 -- `exports::of_bank::hullathan_bank_challenger` hands on what the call says. Assumes nothing.
 use mathlib.Core.Path.{ap, sym, _∙_}
+use Rattle.ranges.specs.Settings.{standard}
 use Rattle.bank.specs.declared.TimingBank.{TimingBank}
 use Prim.Native.Nat.{ℕ}
 use Rattle.ranges.specs.Settings.{standard}

@@ -1,0 +1,27 @@
+// A station with numbers in place of enums, as a host in C or Rust holds it, and the way there and back.
+use plain::PlainBank;
+use station::Station;
+use tracker::SpeedTracker;
+
+pub mod from;
+pub mod to;
+
+// A station: the fields of `Station`, its counts by cause one after the other.
+#[repr(C)]
+pub struct PlainStation {
+    pub primary: SpeedTracker,
+    pub serial: u64,
+    pub bank: PlainBank,
+    pub twins: u64,
+    pub outscored: u64,
+    pub aged: u64,
+    pub replaced: u64,
+    pub cleared: u64,
+    pub accepted: u64,
+}
+
+// The station of a plain form, where it is one.
+pub struct Unplain {
+    pub is: bool,
+    pub station: Station,
+}
