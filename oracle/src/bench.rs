@@ -544,3 +544,81 @@ pub fn bank() {
     full_table("a full bank, one mark", &h, true);
     full_table("a full bank, one gap", &h, false);
 }
+
+/// A watch of a station: each mark, a gap and a switch call, by document 01's rules over the Rust.
+#[cfg(manta)]
+fn rust_watch<'a>(marks: &'a [f32], gaps: &'a [f32], width: usize) -> Loop<'a> {
+    use crate::layers::station::{drive::Driven, Event, GAP, MARK, SWITCH};
+    let event = |kind, value: f32| Event {
+        kind,
+        value: value.to_bits(),
+        live: true,
+    };
+    Box::new(move || {
+        let mut s = Driven::fresh(width, true);
+        for (&m, &g) in marks.iter().zip(gaps) {
+            s.event(&event(MARK, black_box(m)));
+            s.event(&event(GAP, black_box(g)));
+            s.event(&event(SWITCH, 0.0));
+        }
+        black_box(&s.bank);
+    })
+}
+
+/// The same by the public calls.
+#[cfg(manta)]
+fn station_watch<'a>(marks: &'a [f32], gaps: &'a [f32], width: usize) -> Loop<'a> {
+    use crate::hullathan::station as ours;
+    use crate::layers::station::{GAP, MARK, SWITCH};
+    Box::new(move || {
+        let mut s = ours::fresh(width, true).station;
+        for (&m, &g) in marks.iter().zip(gaps) {
+            s = ours::call(s, MARK, black_box(m), true).station;
+            s = ours::call(s, GAP, black_box(g), true).station;
+            s = ours::call(s, SWITCH, 0.0, true).station;
+        }
+        black_box(&s);
+    })
+}
+
+/// A station passed to C and back as often: a kind that no event has.
+#[cfg(manta)]
+fn station_passed(marks: &[f32], width: usize) -> Loop<'_> {
+    use crate::hullathan::station as ours;
+    Box::new(move || {
+        let mut s = ours::fresh(width, true).station;
+        for _ in 0..3 * marks.len() {
+            s = ours::call(s, 255, black_box(0.0), true).station;
+        }
+        black_box(&s);
+    })
+}
+
+/// A table in markdown: a mark, a gap and a switch call of a station of width 2 and of one of width 8.
+#[cfg(manta)]
+pub fn station() {
+    let names = [
+        "manta's tracker and bank",
+        "the public calls, over C",
+        "a station passed to C and back",
+    ];
+    for (who, marks) in [
+        ("one sender", one_sender()),
+        ("many senders", many_senders()),
+    ] {
+        let gaps = heard(marks.clone()).gaps;
+        println!("| {who}, one mark, one gap, one switch call | width | ns | over the Rust |\n|---|---|---|---|");
+        for width in [2, 8] {
+            let loops = vec![
+                rust_watch(&marks, &gaps, width),
+                station_watch(&marks, &gaps, width),
+                station_passed(&marks, width),
+            ];
+            let times = medians_of(loops, 3);
+            for (name, t) in names.iter().zip(&times) {
+                println!("| {name} | {width} | {t:.0} | {:.2} |", t / times[0]);
+            }
+        }
+        println!();
+    }
+}

@@ -14,6 +14,7 @@ oracle exhaustive [--threads N]    the f32 root and the logarithm over all 2^32 
 oracle bench numbers               nanoseconds for each call, beside Rust's own
 oracle bench tracker               nanoseconds for one mark, beside manta's
 oracle bench bank                  the same of a bank
+oracle bench station               nanoseconds for one mark, one gap and one switch call of a station
 oracle replay LAYER DIR            the list of calls for `sender_replay` or `tracker_replay`: DIR/stdin, and DIR/stdout, what it must print
 ";
 
@@ -104,16 +105,16 @@ fn command(words: &[String]) -> Result<bool, String> {
             Ok(true)
         }
         #[cfg(manta)]
-        ("bench", Some((name, []))) if name == "tracker" || name == "bank" => {
-            if name == "bank" {
-                bench::bank();
-            } else {
-                bench::tracker();
+        ("bench", Some((name, []))) if ["tracker", "bank", "station"].contains(&name.as_str()) => {
+            match name.as_str() {
+                "tracker" => bench::tracker(),
+                "bank" => bench::bank(),
+                _ => bench::station(),
             }
             Ok(true)
         }
         #[cfg(not(manta))]
-        ("bench", Some((name, []))) if name == "tracker" || name == "bank" => {
+        ("bench", Some((name, []))) if ["tracker", "bank", "station"].contains(&name.as_str()) => {
             println!("{NO_MANTA}");
             Ok(false)
         }

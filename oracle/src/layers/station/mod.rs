@@ -3,7 +3,7 @@
 
 mod cases;
 mod count;
-mod drive;
+pub(crate) mod drive;
 
 use crate::compare::{Difference, Layer};
 use crate::hullathan::bank::{Bank, Departure};
