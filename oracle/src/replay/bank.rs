@@ -83,11 +83,11 @@ fn parse(script: &str) -> Vec<Call> {
     calls
 }
 
-fn long(n: u64) -> String {
+pub(super) fn long(n: u64) -> String {
     format!(" {:08X} {:08X}", n >> 32, n as u32)
 }
 
-fn code(n: u8) -> String {
+pub(super) fn code(n: u8) -> String {
     format!(" {n:02X}")
 }
 
@@ -136,7 +136,7 @@ fn whole(b: &Bank) -> String {
     s
 }
 
-fn left(gone: &[Departure]) -> String {
+pub(super) fn left(gone: &[Departure]) -> String {
     let each = gone.iter().map(|d| long(d.serial) + &code(d.cause));
     count(gone.len()) + &each.collect::<String>()
 }

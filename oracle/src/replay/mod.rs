@@ -2,6 +2,7 @@
 
 pub mod bank;
 pub mod sender;
+pub mod station;
 pub mod tracker;
 
 use crate::compare::Layer;
@@ -21,6 +22,7 @@ pub fn files(layer: &str) -> Option<Files> {
         "sender" => Some(sender::files()),
         "tracker" => Some(tracker::files()),
         "bank" => Some(bank::files()),
+        "station" => Some(station::files()),
         _ => None,
     }
 }

@@ -340,12 +340,19 @@ fn damaged(random: &mut Random) -> Vec<Call> {
     calls
 }
 
-pub fn random(random: &mut Random) -> Vec<Call> {
-    match random.below(24) {
+/// A watch from a fresh station.
+pub fn watched(random: &mut Random) -> Vec<Call> {
+    match random.below(12) {
         0..=5 => keyed(random),
         6 => long(random),
         7..=9 => recovering(random),
-        10 | 11 => finished(random),
+        _ => finished(random),
+    }
+}
+
+pub fn random(random: &mut Random) -> Vec<Call> {
+    match random.below(24) {
+        0..=11 => watched(random),
         12..=18 => {
             let list = match random.below(3) {
                 0 => bank::cases::handed(random),
@@ -359,7 +366,7 @@ pub fn random(random: &mut Random) -> Vec<Call> {
 }
 
 /// The journal's example of document 01.
-pub fn fixed() -> Vec<Vec<Call>> {
+fn journal() -> Vec<Call> {
     let event = |kind, value: f32, live| {
         Call::Event(Event {
             kind,
@@ -367,13 +374,18 @@ pub fn fixed() -> Vec<Vec<Call>> {
             live,
         })
     };
-    vec![vec![
+    vec![
         Call::Fresh(2, true),
         event(MARK, 50.0, true),
         event(MARK, 150.0, true),
         event(FINISH, 0.0, false),
         event(SWITCH, 0.0, false),
-    ]]
+    ]
+}
+
+/// And the list of the program `station_replay`.
+pub fn fixed() -> Vec<Vec<Call>> {
+    vec![journal(), crate::replay::station::script()]
 }
 
 #[cfg(test)]
@@ -396,7 +408,7 @@ mod tests {
     #[test]
     fn the_journals_example() {
         let mut both = Both::new();
-        let codes: Vec<u8> = fixed()[0]
+        let codes: Vec<u8> = journal()
             .iter()
             .map(|c| both.step(c).expect("the same").code)
             .collect();

@@ -18,6 +18,7 @@ use crate::states::{self, State};
 use drive::{Driven, Heard};
 use std::fmt;
 
+pub use cases::watched as watched_case;
 pub use count::reached;
 
 /// The kinds of events.
