@@ -2,9 +2,9 @@
 use mathlib.Core.Path.{refl}
 use lib.Ieee.{size, round, ofInt, ofBits, div}
 use Rattle.line_in.specs.Fields.{fields}
-use Rattle.line_in.specs.Form.{digits, followed, whole, sixtyFourths, said, entry}
+use Rattle.line_in.specs.Form.{digits, followed, number, flag, whole, sixtyFourths, said, entry}
 use Rattle.line_in.specs.Examples.{bytes, AllHold, worked}
 
 pub examples : AllHold worked
-unfolding AllHold bytes entry fields said digits followed whole sixtyFourths size round ofInt ofBits div
+unfolding AllHold bytes entry fields said digits followed number flag whole sixtyFourths size round ofInt ofBits div
 examples = (refl, (refl, (refl, (refl, (refl, (refl, (refl, (refl, (refl, (refl, tt))))))))))

@@ -40,11 +40,11 @@ unfoldable pub followed : ℕ → List ℕ → ℕ
 followed n [] = n
 followed n (b ∷ l) = followed (n * 10 + (b - code "0")) l
 
-abbrev pub number : List ℕ → Number
+unfoldable pub number : List ℕ → Number
 number f = cond (isWhole f) (Whole (followed 0 f)) NoNumber
 
 -- "one digit, 0 or 1"
-abbrev pub flag : List ℕ → Flag
+unfoldable pub flag : List ℕ → Flag
 flag f = cond (only "0" f) Off (cond (only "1" f) On NoFlag)
 
 -- ---- what a number counts as
@@ -57,7 +57,7 @@ capped n = cond (ltb 16777216 n) 16777216 n
 abbrev pub ticks : ℕ → ℕ
 ticks n = cond (ltb 16777216 n) 16777218 n
 
--- A number as f32, and so many 64ths: "A tick is 1/64 ms". No number of a line is changed by the rounding (proofs/Exact.antt).
+-- A number as f32, and so many 64ths: "A tick is 1/64 ms". No number of a line is changed by rounding (specs/Exact.antt).
 unfoldable pub whole : ℕ → Float
 whole n = ofInt binary32 (pos n)
 

@@ -1,3 +1,4 @@
 pub mod Fields
 pub mod Form
+pub mod Exact
 pub mod Examples
