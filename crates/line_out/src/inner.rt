@@ -5,9 +5,10 @@ ghost use mathlib.Core.Path.{_≡_};
 ghost use mathlib.Core.List.{[], _∷_};
 ghost use Prim.Native.Nat.{_+_, _≤_, _<_};
 ghost use lib.ListN.{length};
+ghost use Rattle.station_model.specs.Station.{number as Station·number, taken as Station·taken};
 ghost use Rattle.line_out.specs.Shown.{tab, digits, hexadecimal, decimal, coded, line};
 ghost use Rattle.line_out.specs.Shown.{glyph as Shown·glyph};
-ghost use Rattle.line_out.specs.Written.{written, over};
+ghost use Rattle.line_out.specs.Written.{written, over, Put};
 
 const TAB: u8 = 9;
 
@@ -32,37 +33,57 @@ pub fn write_line(out: &mut [u8], s: Shown) -> usize
 // One byte.
 fn put_byte(out: &mut [u8], at: usize, b: u8) -> usize
     requires { ⌜ at < length (now out) ⌝ }
-    ensures { λ r. ⌜ r ≡ at + 1 ⌝ }
-    ensures { λ r. ⌜ now (out .exit) ≡ written (now (out .entry)) at (b ∷ []) ⌝ }
+    ensures { λ r. ⌜ Put (now (out .entry)) at (b ∷ []) (now (out .exit)) r ⌝ }
 {
     out[at] = b;
     at + 1
 }
 
-// A tab and the code: a digit, or R and the number.
+// A tab and the code: its number, an R before it if refused; at most 5 bytes.
 fn put_code(out: &mut [u8], at: usize, c: Code) -> usize
-    requires { ⌜ at + length (tab ∷ coded c) ≤ length (now out) ⌝ }
-    ensures { λ r. ⌜ r ≡ at + length (tab ∷ coded c) ⌝ }
-    ensures { λ r. ⌜ now (out .exit) ≡ written (now (out .entry)) at (tab ∷ coded c) ⌝ }
+    requires { ⌜ at + 5 ≤ length (now out) ⌝ }
+    ensures { λ r. ⌜ Put (now (out .entry)) at (tab ∷ coded c) (now (out .exit)) r ⌝ }
+    ensures { λ r. ⌜ r ≤ at + 5 ⌝ }
 {
     let a = put_byte(out, at, TAB);
+    let n = number(c) as u64;
+    if taken(c) {
+        return put_digits(out, a, n);
+    }
+    let b = put_byte(out, a, b'R');
+    put_digits(out, b, n)
+}
+
+// The number of a code.
+fn number(c: Code) -> u8
+    ensures { λ r. ⌜ r ≡ Station·number c ⌝ }
+{
     match c {
-        Code::Done => put_byte(out, a, b'0'),
-        Code::BecameReady => put_byte(out, a, b'1'),
-        Code::Switched => put_byte(out, a, b'2'),
-        Code::Nothing => put_byte(out, a, b'3'),
-        Code::Refused(n) => {
-            let b = put_byte(out, a, b'R');
-            put_digits(out, b, n as u64)
-        }
+        Code::Done => 0,
+        Code::BecameReady => 1,
+        Code::Switched => 2,
+        Code::Nothing => 3,
+        Code::Refused(n) => n,
+    }
+}
+
+// Whether no R stands before it.
+fn taken(c: Code) -> bool
+    ensures { λ r. ⌜ r ≡ Station·taken c ⌝ }
+{
+    match c {
+        Code::Done => true,
+        Code::BecameReady => true,
+        Code::Switched => true,
+        Code::Nothing => true,
+        Code::Refused(_) => false,
     }
 }
 
 // A tab and the number in decimal.
 fn put_number(out: &mut [u8], at: usize, n: u64) -> usize
     requires { ⌜ at + length (tab ∷ decimal n) ≤ length (now out) ⌝ }
-    ensures { λ r. ⌜ r ≡ at + length (tab ∷ decimal n) ⌝ }
-    ensures { λ r. ⌜ now (out .exit) ≡ written (now (out .entry)) at (tab ∷ decimal n) ⌝ }
+    ensures { λ r. ⌜ Put (now (out .entry)) at (tab ∷ decimal n) (now (out .exit)) r ⌝ }
 {
     let a = put_byte(out, at, TAB);
     put_digits(out, a, n)
@@ -71,8 +92,7 @@ fn put_number(out: &mut [u8], at: usize, n: u64) -> usize
 // A number in decimal.
 fn put_digits(out: &mut [u8], at: usize, n: u64) -> usize
     requires { ⌜ at + length (decimal n) ≤ length (now out) ⌝ }
-    ensures { λ r. ⌜ r ≡ at + length (decimal n) ⌝ }
-    ensures { λ r. ⌜ now (out .exit) ≡ written (now (out .entry)) at (decimal n) ⌝ }
+    ensures { λ r. ⌜ Put (now (out .entry)) at (decimal n) (now (out .exit)) r ⌝ }
 {
     let k = size(n);
     fill(out, at, k, n);
@@ -108,9 +128,8 @@ fn fill(out: &mut [u8], at: usize, k: usize, n: u64)
 
 // A tab and 8 hexadecimal digits.
 fn put_word(out: &mut [u8], at: usize, v: u32) -> usize
-    requires { ⌜ at + 9 ≤ length (now out) ⌝ }
-    ensures { λ r. ⌜ r ≡ at + 9 ⌝ }
-    ensures { λ r. ⌜ now (out .exit) ≡ written (now (out .entry)) at (tab ∷ hexadecimal v) ⌝ }
+    requires { ⌜ at + length (tab ∷ hexadecimal v) ≤ length (now out) ⌝ }
+    ensures { λ r. ⌜ Put (now (out .entry)) at (tab ∷ hexadecimal v) (now (out .exit)) r ⌝ }
 {
     let a = put_byte(out, at, TAB);
     fill_word(out, a, v);
