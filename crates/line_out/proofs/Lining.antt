@@ -70,14 +70,29 @@ put-whole s {l} {l′} {a} f =
 
 -- ---- its length
 
+-- what is known of its numbers'
+pub record Lengths (s : Shown) : Type 0 where
+  pub dit : length (hexadecimal (s .dit)) ≡ 8
+  pub dah : length (hexadecimal (s .dah)) ≡ 8
+  pub serial : length (decimal (s .serial)) ≤ 20
+  pub challengers : length (decimal (s .challengers)) ≤ 20
+
+pub lengths : (s : Shown) → Lengths s
+lengths s = record {
+  dit = digits-length 16 8 (s .dit);
+  dah = digits-length 16 8 (s .dah);
+  serial = tens-most 20 (s .serial);
+  challengers = tens-most 20 (s .challengers);
+}
+
 -- 23 bytes are the letter, five tabs, two times 8 digits and the newline
 pub line-length : (s : Shown) → length (line s) ≡ 23 + length (coded (s .code)) + length (decimal (s .serial)) + length (decimal (s .challengers))
 line-length s =
     sym (ap length (whole s))
-    ∙ simp length-append (omega (arith, digits-length 16 8 (s .dit), digits-length 16 8 (s .dah)))
+    ∙ simp length-append (omega (arith, lengths s))
 
 pub line-most : (s : Shown) → length (coded (s .code)) ≤ 4 → length (line s) ≤ 67
-line-most s h = omega (arith, line-length s, tens-most 20 (s .serial), tens-most 20 (s .challengers))
+line-most s h = omega (arith, line-length s, lengths s)
 
 pub line-least : (s : Shown) → 26 ≤ length (line s)
 line-least s = omega (arith, line-length s, coded-least (s .code), tens-least 19 (s .serial), tens-least 19 (s .challengers))

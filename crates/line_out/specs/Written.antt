@@ -19,6 +19,6 @@ pub record Put (l : List ℕ) (at : ℕ) (p l′ : List ℕ) (past : ℕ) : Type
 abbrev pub over : List ℕ → List ℕ → List ℕ
 over p l = p ++ drop (length p) l
 
--- 80 bytes have room for every line (`line-most` of proofs/Lengths: 67 are enough)
+-- 80 bytes have room for every line (specs/Form: 67 are enough)
 abbrev pub roomy : List ℕ → Bool
 roomy l = leb 80 (length l)

@@ -3,8 +3,7 @@ use Prim.Native.Nat.{zero-le}
 use native.Mathlib.Omega.{arith}
 use borrow.Author.Needs.{needs}
 use Rattle.line_out.proofs.Pasting.{put-next}
-use Rattle.line_out.proofs.Lining.{put-whole}
-use Rattle.line_out.proofs.Digits.{digits-length, tens-most}
+use Rattle.line_out.proofs.Lining.{put-whole, lengths}
 use Rattle.line_out.proofs.inner.write_line.Statement.{statement}
 use Rattle.line_out.proofs.inner.write_line.Tie as tie
 
@@ -15,19 +14,19 @@ put-code-requires : tie.Need-put-code-requires
 put-code-requires c κs = omega arith
 
 put-word-requires : tie.Need-put-word-requires
-put-word-requires c κs = omega (arith, digits-length 16 8 (c .before .before .before .before .before .before .before .before .before .before .args .s .dit))
+put-word-requires c κs = omega (arith, lengths (c .before .before .before .before .before .before .before .before .before .before .args .s))
 
 put-word-requires-2 : tie.Need-put-word-requires-2
-put-word-requires-2 c κs = omega (arith, digits-length 16 8 (c .before .before .before .before .before .before .before .before .before .before .before .before .before .before .args .s .dit), digits-length 16 8 (c .before .before .before .before .before .before .before .before .before .before .before .before .before .before .args .s .dah))
+put-word-requires-2 c κs = omega (arith, lengths (c .before .before .before .before .before .before .before .before .before .before .before .before .before .before .args .s))
 
 put-number-requires : tie.Need-put-number-requires
-put-number-requires c κs = let s = c .before .before .before .before .before .before .before .before .before .before .before .before .before .before .before .before .before .before .args .s in omega (arith, digits-length 16 8 (s .dit), digits-length 16 8 (s .dah), tens-most 20 (s .serial))
+put-number-requires c κs = omega (arith, lengths (c .before .before .before .before .before .before .before .before .before .before .before .before .before .before .before .before .before .before .args .s))
 
 put-number-requires-2 : tie.Need-put-number-requires-2
-put-number-requires-2 c κs = let s = c .before .before .before .before .before .before .before .before .before .before .before .before .before .before .before .before .before .before .before .before .before .before .args .s in omega (arith, digits-length 16 8 (s .dit), digits-length 16 8 (s .dah), tens-most 20 (s .serial), tens-most 20 (s .challengers))
+put-number-requires-2 c κs = omega (arith, lengths (c .before .before .before .before .before .before .before .before .before .before .before .before .before .before .before .before .before .before .before .before .before .before .args .s))
 
 put-byte-requires-2 : tie.Need-put-byte-requires-2
-put-byte-requires-2 c κs = let s = c .before .before .before .before .before .before .before .before .before .before .before .before .before .before .before .before .before .before .before .before .before .before .before .before .before .before .args .s in omega (arith, digits-length 16 8 (s .dit), digits-length 16 8 (s .dah), tens-most 20 (s .serial), tens-most 20 (s .challengers))
+put-byte-requires-2 c κs = omega (arith, lengths (c .before .before .before .before .before .before .before .before .before .before .before .before .before .before .before .before .before .before .before .before .before .before .before .before .before .before .args .s))
 
 same-length : tie.Need-same-length
 same-length c = search needs
