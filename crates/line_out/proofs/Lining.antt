@@ -63,11 +63,6 @@ pub whole : (s : Shown) → front6 s ++ (newline ∷ []) ≡ line s
 unfolding line
 whole s = regroup (s .letter ∷ []) (tab ∷ []) (coded (s .code)) (hexadecimal (s .dit)) (hexadecimal (s .dah)) (decimal (s .serial)) (decimal (s .challengers)) (newline ∷ [])
 
--- all of it, at the front of a slice
-pub put-whole : (s : Shown) {l l′ : List ℕ} {a : ℕ} → Put l 0 (front6 s ++ (newline ∷ [])) l′ a → (a ≡ length (line s)) × (l′ ≡ over (line s) l)
-put-whole s {l} {l′} {a} f =
-    (omega (arith, f .place, ap length (whole s)), f .text ∙ over-written (front6 s ++ (newline ∷ [])) l ∙ ap (λ p. over p l) (whole s))
-
 -- ---- its length
 
 -- what is known of its numbers'
@@ -96,3 +91,11 @@ line-most s h = omega (arith, line-length s, lengths s)
 
 pub line-least : (s : Shown) → 26 ≤ length (line s)
 line-least s = omega (arith, line-length s, coded-least (s .code), tens-least 19 (s .serial), tens-least 19 (s .challengers))
+
+-- ---- all of it, at the front of a slice
+
+pub put-whole : (s : Shown) {l l′ : List ℕ} {a : ℕ} → length (coded (s .code)) ≤ 4 → Put l 0 (front6 s ++ (newline ∷ [])) l′ a
+    → (a ≡ length (line s)) × ((l′ ≡ over (line s) l) × (a ≤ 67))
+put-whole s {l} {l′} {a} h f =
+    let e : a ≡ length (line s) = omega (arith, f .place, ap length (whole s)) in
+    (e, (f .text ∙ over-written (front6 s ++ (newline ∷ [])) l ∙ ap (λ p. over p l) (whole s), omega (arith, line-most s h)))

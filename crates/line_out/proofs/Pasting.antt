@@ -1,12 +1,12 @@
 -- What stands in a slice when one thing is written at the end of another. Assumes nothing.
 use mathlib.Core.Path.{_≡_, sym, ap, _∙_}
 use mathlib.Core.List.{List, [], _∷_, _++_, append-nil, append-assoc}
-use Prim.Native.Nat.{ℕ, suc, _+_, _≤_, _<_}
+use Prim.Native.Nat.{ℕ, suc, _+_, _-_, _≤_, _<_, zero-le}
 use native.Mathlib.Nat.{add-zero, zero-add, add-assoc}
 use native.Mathlib.Numerals.{add-one}
 use native.Mathlib.Omega.{arith}
-use lib.ListN.{length, take, drop, set, length-append, length-drop, take-append-drop}
-use lib.Seq.{length-take-le, append-snoc, set-split, take-set-le, take-at, drop-at, drop-append-add, drop-drop}
+use lib.ListN.{length, take, drop, set, length-append, length-drop, take-append-drop, drop-of-length-le}
+use lib.Seq.{length-take-le, take-all, append-snoc, set-split, take-set-le, take-at, drop-at, drop-append-add, drop-drop}
 use Rattle.line_out.specs.Written.{written, over, Put}
 
 -- nothing is written
@@ -65,3 +65,25 @@ put-next {l} {at} {p} {q} {l′} {l″} {a} {b} h f g = record {
       ∙ written-next l at p q h;
   place = omega (arith, f .place, g .place, length-append p q);
 }
+
+-- the same at the front
+pub over-next : (l p q : List ℕ) → written (over p l) (length p) q ≡ over (p ++ q) l
+over-next l p q =
+    ap (λ x. written x (length p) q) (sym (over-written p l))
+    ∙ ap (λ n. written (written l 0 p) n q) (sym (zero-add (length p)))
+    ∙ written-next l 0 p q zero-le
+    ∙ over-written (p ++ q) l
+
+-- a caller lends what stands from a place on, `&mut l[at..]`, and gets it back with q over it: q is written at the place
+pub lent-written : (l : List ℕ) (at : ℕ) (q : List ℕ) → at ≤ length l
+    → let k = length l - at in take at l ++ (over q (take k (drop at l)) ++ drop k (drop at l)) ≡ written l at q
+lent-written l at q h =
+    let k = length l - at in
+    let e : length (drop at l) ≡ k = length-drop at l in
+    let t : take k (drop at l) ≡ drop at l = take-all k (drop at l) (omega arith) in
+    let d : drop k (drop at l) ≡ [] = drop-of-length-le (drop at l) {i = k} (omega arith) in
+    ap (λ x. take at l ++ (over q x ++ drop k (drop at l))) t
+    ∙ ap (λ x. take at l ++ (over q (drop at l) ++ x)) d
+    ∙ ap (λ x. take at l ++ x) (append-nil (over q (drop at l)))
+    ∙ sym (append-assoc (take at l) q (drop (length q) (drop at l)))
+    ∙ ap (λ x. take at l ++ q ++ x) (drop-drop (length q) at l)

@@ -14,11 +14,12 @@ const TAB: u8 = 9;
 
 const NEWLINE: u8 = 10;
 
-// Writes the line at the front of a slice of 80 bytes or more.
+// Writes the line at the front of a slice of 80 bytes or more, and answers its length, at most 67.
 pub fn write_line(out: &mut [u8], s: Shown) -> usize
     requires { ⌜ 80 ≤ length (now out) ⌝ }
     ensures { λ r. ⌜ r ≡ length (line s) ⌝ }
     ensures { λ r. ⌜ now (out .exit) ≡ over (line s) (now (out .entry)) ⌝ }
+    ensures { λ r. ⌜ r ≤ 67 ⌝ }
 {
     let code = s.code;
     let a = put_byte(out, 0, s.letter);

@@ -17,7 +17,7 @@ same-length : tie.Need-same-length
 same-length c = search needs
 
 returns-2 : tie.Need-returns-2
-returns-2 c = let h = le-leb 80 (length (c .before .before .before .before .before .before .args .out .now)) (omega arith) in rw h (c .before .before .write-line .ensures)
+returns-2 c = let h = le-leb 80 (length (c .before .before .before .before .before .before .args .out .now)) (omega arith) in rw h (c .before .before .write-line .ensures .0, c .before .before .write-line .ensures .1 .0)
 
 pub write-line-spec : {M : Type 1} → statement M
 write-line-spec = tie.close (tie.spec returns write-line-requires same-length returns-2)

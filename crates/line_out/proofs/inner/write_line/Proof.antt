@@ -40,6 +40,7 @@ returns c =
     let c2 = c3 .before .before .before .before in
     let c1 = c2 .before .before .before .before in
     put-whole (c1 .before .before .before .args .s)
+    (omega (arith, c2 .put-code .ensures .0 .place, c2 .put-code .ensures .1))
     (put-next zero-le
     (put-next zero-le
     (put-next zero-le
