@@ -65,7 +65,7 @@ whole s = regroup (s .letter ∷ []) (tab ∷ []) (coded (s .code)) (hexadecimal
 
 -- ---- its length
 
--- what is known of its numbers'
+-- of the numbers in it
 pub record Lengths (s : Shown) : Type 0 where
   pub dit : length (hexadecimal (s .dit)) ≡ 8
   pub dah : length (hexadecimal (s .dah)) ≡ 8

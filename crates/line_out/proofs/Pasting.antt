@@ -21,11 +21,7 @@ written-one l at b h = set-split l at b h ∙ sym (append-snoc (take at l) b (dr
 head-length : (l : List ℕ) (at : ℕ) (p : List ℕ) → at ≤ length l → length (take at l ++ p) ≡ at + length p
 head-length l at p h = length-append (take at l) p ∙ ap (λ n. n + length p) (length-take-le at l h)
 
--- the slice is as long as it was
-pub written-length : (l : List ℕ) (at : ℕ) (p : List ℕ) → at + length p ≤ length l → length (written l at p) ≡ length l
-written-length l at p h = omega (arith, length-append (take at l ++ p) (drop (at + length p) l), head-length l at p (omega arith), length-drop (at + length p) l)
-
--- THE LAW OF EVERY PIECE: q written at the end of p is p and then q
+-- the law of every piece: q written at the end of p is p and then q
 pub written-next : (l : List ℕ) (at : ℕ) (p q : List ℕ) → at ≤ length l → written (written l at p) (at + length p) q ≡ written l at (p ++ q)
 written-next l at p q h =
     let n = at + length p in

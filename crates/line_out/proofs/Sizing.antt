@@ -1,6 +1,6 @@
 -- The loop that counts decimal digits. Assumes nothing.
 use mathlib.Core.Path.{_≡_, refl, ap}
-use Prim.Native.Nat.{ℕ, zero, suc, _+_, _-_, _/_, _%_, _^_, _≤_, _<_}
+use Prim.Native.Nat.{ℕ, zero, suc, _+_, _/_, _%_, _^_, _≤_, _<_}
 use native.Mathlib.Nat.{lt-of-lt-of-le}
 use native.Mathlib.Omega.{arith}
 use lib.Dec.{lit≤}
@@ -8,7 +8,7 @@ use lib.ListN.{length}
 use Rattle.line_out.specs.Shown.{glyph, tens, decimal}
 use Rattle.line_out.proofs.Digits.{tens-one, tens-more, tenth, snoc-length}
 
--- n has k digits and those of rest but one; there are fuel digits left for it
+-- n has as many digits as k and those of rest but one; rest has at most one more than left
 pub record Sizing (n k rest : ℕ) : Type 0 where
   pub left : ℕ
   pub spent : k + left ≡ 20
