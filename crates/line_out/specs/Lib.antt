@@ -1,0 +1,4 @@
+pub mod Shown
+pub mod Written
+pub mod Form
+pub mod Examples
