@@ -4,12 +4,11 @@ use crate::Outcome;
 use crate::Rival;
 use crate::Started;
 use crate::Station;
-use crate::inner::events::step;
+use crate::inner::call as known;
 use crate::inner::fresh as begun;
 use crate::inner::readers::count_of;
 use crate::inner::readers::glimpse;
 use crate::inner::readers::no_rival;
-use crate::inner::refusals::call_refusal;
 use crate::inner::refusals::refuse;
 use crate::inner::sound::is_sound;
 use bank::Place;
@@ -52,11 +51,10 @@ impl Station {
     pub fn call(self, event: Event) -> Outcome
         ensures { λ r. ⌜ Called standard self event r ⌝ }
     {
-        let n = call_refusal(self, event);
-        if n == 0 {
-            return step(self, event);
+        if is_sound(self) {
+            return known::call(self, event);
         }
-        refuse(self, n)
+        refuse(self, 1)
     }
 
     // Whether the primary is ready.
