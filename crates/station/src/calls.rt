@@ -27,7 +27,7 @@ ghost use Rattle.tracker.specs.Steps.{ditEstimate};
 ghost use Rattle.tracker.specs.Answers.{count, flag, number, ofFlag, ofReading, optional, unless};
 ghost use Rattle.bank.specs.Answers.{ofTally, showing};
 ghost use Rattle.station.specs.View.{view};
-ghost use Rattle.station.specs.Answers.{Begins, Called, countOf, glimpse, ofRival, stationThen};
+ghost use Rattle.station.specs.Answers.{Begins, Called, countOf, glimpse, rivalOf, stationThen};
 
 impl Station {
     // A fresh station; one of width 1 that does not switch, where the width is above 8. What it promises of every list of calls is
@@ -174,7 +174,7 @@ impl Station {
 
     // The i-th challenger, in bank order.
     pub fn challenger(self, i: usize) -> Rival
-        ensures { λ r. ⌜ ofRival r ≡ showing (stationThen standard self 0) (getElem? (map glimpse (view self .bank .challengers)) i) ⌝ }
+        ensures { λ r. ⌜ r ≡ rivalOf (showing (stationThen standard self 0) (getElem? (map glimpse (view self .bank .challengers)) i)) ⌝ }
     {
         if is_sound(self) {
             let b = self.bank;
