@@ -29,17 +29,20 @@ use Rattle.station.proofs.Refusing.{accepted-of, accepted-open, accepte
 
 -- ---- a call: i is the number that the code found
 module _ (s : Station) (e : Event) (r : Outcome) (i : ℕ) (q : i ≡ callRefusal standard s e) where
-  pub answers : i ≡ 0 → Solid s → Stands r (accepted (view s) (acted standard (view s) e)) → Called standard s e r
+  pub answers : i ≡ 0 → Solid s → Stands r (accepted (view s) (acted standard (view s) e)) → Called standard s e r × Solid (r .station)
   answers z k d =
       let a = accepted-of s e (sym q ∙ z) in
       let books : Booked (view (r .station)) = subst Booked (sym (ap (λ (x : Model.Outcome). x .station) (d .is))) (booked-accepted standard (view s) e (accepted-open s e a .accepted) (k .books)) in
-      record {
-        says = λ h. absurd (h (sym q ∙ z));
-        kept = λ h. absurd (h (sym q ∙ z));
-        state = λ h. d .is ∙ step-accepted standard (view s) e (accepted-refusal s e a);
-        still = λ h. solid-sound (r .station) (record { primary = d .primary; bank = d .bank; books = books });
-        few = d .few;
-      }
+      let solid : Solid (r .station) = record { primary = d .primary; bank = d .bank; books = books } in (
+        record {
+          says = λ h. absurd (h (sym q ∙ z));
+          kept = λ h. absurd (h (sym q ∙ z));
+          state = λ h. d .is ∙ step-accepted standard (view s) e (accepted-refusal s e a);
+          still = λ h. solid-sound (r .station) solid;
+          few = d .few;
+        },
+        solid,
+      )
 
   pub answers-not : (i ≡ 0 → ⊥) → (r .answer .code ≡ Refused i) × ((r .station ≡ s) × (r .answer .«left_len» ≡ 0)) → Called standard s e r
   answers-not h k = record {
@@ -49,6 +52,9 @@ module _ (s : Station) (e : Event) (r : Outcome) (i : ℕ) (q : i ≡ callRefusa
     still = λ z. absurd (h (q ∙ z));
     few = let n = k .1 .1 in omega arith;
   }
+
+  pub answers-kept : (i ≡ 0 → ⊥) → Solid s → (r .answer .code ≡ Refused i) × ((r .station ≡ s) × (r .answer .«left_len» ≡ 0)) → Called standard s e r × Solid (r .station)
+  answers-kept h k d = (answers-not h d, subst Solid (sym (d .1 .0)) k)
 
 -- ---- a call that only reads
 module _ (s : Station) where

@@ -25,7 +25,7 @@ use Rattle.station_model.proofs.Starts.{one-acted}
 use Rattle.station_model.proofs.Ledger.{fair-acted, books-fresh}
 use Rattle.station.specs.declared.Station.{Station}
 use Rattle.station.specs.View.{view}
-use Rattle.station.specs.Parts.{Booked, Solid}
+use Rattle.station.specs.Parts.{Booked, Steady}
 
 pub booked-accepted : (k : Settings) (m : Model.Station) (e : Event) → m .accepted < 4294967295 → Booked m → Booked (accepted m (acted k m e) .station)
 booked-accepted k m e below b =
@@ -62,5 +62,5 @@ module _ (width : ℕ) (switching : Bool) (p : SpeedTracker) (b : TimingBank) (x
   is : view started ≡ fresh width switching
   is = ap (λ (t : Tracker). record { primary = t; serial = 0; bank = Banked.view b; counts = none; accepted = 0 }) (x .0) ∙ ap (λ (c : Bank). record { primary = Tracking.fresh; serial = 0; bank = c; counts = none; accepted = 0 }) (y .0)
 
-  pub fresh-is : (view started ≡ fresh width switching) × Solid started
-  fresh-is = (is, record { primary = x .1; bank = y .1; books = subst Booked (sym is) (booked-fresh width switching) })
+  pub fresh-is : (view started ≡ fresh width switching) × Steady started
+  fresh-is = (is, record { solid = record { primary = x .1; bank = y .1; books = subst Booked (sym is) (booked-fresh width switching) }; unready = λ e. ap (λ (m : Model.Station). m .bank .pending) is })

@@ -6,3 +6,4 @@ pub mod Keeping
 pub mod Refusing
 pub mod Answering
 pub mod Watching
+pub mod Steadying

@@ -5,6 +5,7 @@ use Prim.Native.Nat.{ℕ}
 use native.Mathlib.Omega.{arith}
 use borrow.Author.Tests.{leb-false}
 use lib.Dec.{leb}
+use lib.Ieee.Bits.{is-true}
 use Rattle.ranges.specs.Settings.{standard}
 use Rattle.tracker.proofs.Answering.{good-duration, good-speed}
 use Rattle.station_model.specs.declared.Event.{Event}
@@ -12,9 +13,10 @@ use Rattle.station_model.specs.declared.Event.the-variants.{Mark, Gap, Finish, 
 use Rattle.station_model.specs.Station.{full, fault, refusal}
 use Rattle.station.specs.declared.Station.{Station}
 use Rattle.station.specs.View.{view}
-use Rattle.station.specs.Parts.{Open, Allowed}
+use Rattle.station.specs.Parts.{Solid, Open, Allowed}
 use Rattle.station.specs.Sound.{sound, choiceSound}
 use Rattle.station.specs.Answers.{callRefusal}
+use Rattle.station.proofs.Sounding.{solid-sound}
 
 -- ---- a choice at a switch
 pub chosen-is : (has ready : Bool) → has ≡ true → ready ≡ not (has && not ready)
@@ -29,11 +31,19 @@ chosen-of false r e h = absurd (false≢true h)
 
 module _ (s : Station) (e : Event) where
   -- ---- the number, from what the tests found
-  pub call-by : (a b f : Bool) → sound standard s ≡ a → choiceSound s e ≡ b → full (view s) ≡ f → callRefusal standard s e ≡ cond (a && b) (cond f 2 (fault e)) 1
+  call-by : (a b f : Bool) → sound standard s ≡ a → choiceSound s e ≡ b → full (view s) ≡ f → callRefusal standard s e ≡ cond (a && b) (cond f 2 (fault e)) 1
   call-by a b f p q r =
       ap (λ (x : Bool). cond (x && choiceSound s e) (refusal (view s) e) 1) p
       ∙ ap (λ (x : Bool). cond (a && x) (refusal (view s) e) 1) q
       ∙ ap (λ (x : Bool). cond (a && b) (cond x 2 (fault e)) 1) r
+
+  -- ---- of a sound station
+  pub solid-by : (b f : Bool) → Solid s → choiceSound s e ≡ b → full (view s) ≡ f → callRefusal standard s e ≡ cond b (cond f 2 (fault e)) 1
+  solid-by b f k q r = call-by true b f (is-true (sound standard s) (solid-sound s k)) q r
+
+  -- ---- of one that is not
+  pub unsound-by : sound standard s ≡ false → 1 ≡ callRefusal standard s e
+  unsound-by p = sym (call-by false (choiceSound s e) (full (view s)) p refl refl)
 
   -- ---- what an accepted call has
   pub record Accepted : Type 0 where

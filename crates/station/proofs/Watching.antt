@@ -20,14 +20,14 @@ use Rattle.station_model.specs.declared.Event.{Event}
 use Rattle.station_model.specs.declared.Event.the-variants.{Mark, Gap, Finish, Seed, Hint, Clear, Switch}
 use Rattle.station_model.specs.declared.Code.{Code}
 use Rattle.station_model.specs.declared.Code.the-variants as Codes
-use Rattle.station_model.specs.Station.{number, taken, fresh, refusal, step}
+use Rattle.station_model.specs.Station.{number, taken, ready, fresh, refusal, step}
 use Rattle.station_model.specs.Station as Model
-use Rattle.station_model.specs.Watch.{SameAnswer, Settled, Stepped, Ran, RanFrom}
+use Rattle.station_model.specs.Watch.{SameAnswer, Stepped, Ran, RanFrom}
 use Rattle.station_model.proofs.Whole.{program-watch}
 use Rattle.station.specs.declared.Station.{Station}
 use Rattle.station.specs.declared.Outcome.{Outcome}
 use Rattle.station.specs.View.{view, answered, outcome}
-use Rattle.station.specs.Parts.{Solid}
+use Rattle.station.specs.Parts.{Steady}
 use Rattle.station.specs.Sound.{sound, choiceSound}
 use Rattle.station.specs.Answers.{callRefusal, Called, stationOf, Watched, Begins}
 use Rattle.station.proofs.Sounding.{solid-sound}
@@ -38,20 +38,24 @@ choice-of true true i f = refl
 choice-of true false i f = let z : _≡_ {A = ℕ} 0 1 = let q = f refl in cc in absurd (omega arith)
 choice-of false r i f = refl
 
-settled-choice : (s : Station) (e : Event) → Settled (view s) → choiceSound s e ≡ true
-settled-choice s (Mark d live) k = refl
-settled-choice s (Gap d) k = refl
-settled-choice s Finish k = refl
-settled-choice s (Seed v) k = refl
-settled-choice s (Hint r) k = refl
-settled-choice s Clear k = refl
-settled-choice s Switch k = choice-of (s .bank .«has_pending») (s .primary .pair .ready) (s .bank .pending) (k .unready)
+-- nothing is pending while the primary is unready
+abbrev pub Quiet : Model.Station → Type 0
+Quiet m = ready (m .primary) ≡ false → m .bank .pending ≡ none
+
+quiet-choice : (s : Station) (e : Event) → Quiet (view s) → choiceSound s e ≡ true
+quiet-choice s (Mark d live) k = refl
+quiet-choice s (Gap d) k = refl
+quiet-choice s Finish k = refl
+quiet-choice s (Seed v) k = refl
+quiet-choice s (Hint r) k = refl
+quiet-choice s Clear k = refl
+quiet-choice s Switch k = choice-of (s .bank .«has_pending») (s .primary .pair .ready) (s .bank .pending) k
 
 -- so refusal 1 never holds
-settled-refusal : (s : Station) (e : Event) → T (sound standard s) → Settled (view s) → callRefusal standard s e ≡ refusal (view s) e
-settled-refusal s e t k =
+quiet-refusal : (s : Station) (e : Event) → T (sound standard s) → Quiet (view s) → callRefusal standard s e ≡ refusal (view s) e
+quiet-refusal s e t k =
     ap (λ (b : Bool). cond (b && choiceSound s e) (refusal (view s) e) 1) (is-true (sound standard s) t)
-    ∙ ap (λ (b : Bool). cond b (refusal (view s) e) 1) (settled-choice s e k)
+    ∙ ap (λ (b : Bool). cond b (refusal (view s) e) 1) (quiet-choice s e k)
 
 -- ---- the code of a refusal
 refused-code : (c : Code) (n : ℕ) → taken c ≡ false → number c ≡ n → c ≡ Codes.Refused n
@@ -65,15 +69,12 @@ same : {a b : Model.Answer} → a ≡ b → SameAnswer a b
 same {a} {b} e = record { code = ap (λ (x : Model.Answer). x .code) e; departures = subst (λ (x : Model.Answer). List·Permᴰ (a .departures) (x .departures)) e (Permᴰ·refl (a .departures)) }
 
 -- ---- one call
-module _ (s : Station) (e : Event) (r : Outcome) (t : T (sound standard s)) (k : Settled (view s)) (c : Called standard s e r) where
+module _ (s : Station) (e : Event) (r : Outcome) (t : T (sound standard s)) (k : Quiet (view s)) (c : Called standard s e r) where
   abbrev After : Type 0
-  After = T (sound standard (r .station)) × Stepped standard (view s) e (view (r .station)) (answered (r .answer))
+  After = T (sound standard (r .station)) × (outcome r ≡ step standard (view s) e)
 
   accepted-after : refusal (view s) e ≡ 0 → After
-  accepted-after z =
-      let n = settled-refusal s e t k ∙ z in
-      let w = c .state n in
-      (c .still n, record { station = ap (λ (x : Model.Outcome). x .station) w; answer = same (ap (λ (x : Model.Outcome). x .answer) w) })
+  accepted-after z = let n = quiet-refusal s e t k ∙ z in (c .still n, c .state n)
 
   left-none : (l : List Departure) (n : ℕ) → n ≡ 0 → take n l ≡ []
   left-none l n z = ap (λ (j : ℕ). take j l) z
@@ -81,19 +82,13 @@ module _ (s : Station) (e : Event) (r : Outcome) (t : T (sound standard s)) (k :
   refused-after : (n : ℕ) → refusal (view s) e ≡ suc n → After
   unfolding step
   refused-after n z =
-      let q = settled-refusal s e t k ∙ z in
+      let q = quiet-refusal s e t k ∙ z in
       let h : callRefusal standard s e ≡ 0 → ⊥ = λ y. (let x : _≡_ {A = ℕ} (suc n) 0 = sym q ∙ y in omega arith) in
       let v = c .kept h in
       let code = refused-code (r .answer .code) (suc n) (c .says h .0) (c .says h .1 ∙ q) in
-      let a : answered (r .answer) ≡ Model.outcome standard (view s) e (suc n) .answer =
-      ap (λ (x : Code). record { code = x; departures = take (r .answer .«left_len») (r .answer .left) }) code
-      ∙ ap (λ (l : List Departure). record { code = Codes.Refused (suc n); departures = l }) (left-none (r .answer .left) (r .answer .«left_len») (v .1)) in (
-        subst (λ (x : Station). T (sound standard x)) (sym (v .0)) t,
-        record {
-          station = ap view (v .0) ∙ sym (ap (λ (j : ℕ). Model.outcome standard (view s) e j .station) z);
-          answer = same (a ∙ sym (ap (λ (j : ℕ). Model.outcome standard (view s) e j .answer) z));
-        },
-      )
+      let a : outcome r ≡ Model.outcome standard (view s) e (suc n) =
+      λ i. record { station = view (v .0 i); answer = record { code = code i; departures = left-none (r .answer .left) (r .answer .«left_len») (v .1) i } } in
+      (subst (λ (x : Station). T (sound standard x)) (sym (v .0)) t, a ∙ sym (ap (Model.outcome standard (view s) e) z))
 
   pub after : After
   after = go (refusal (view s) e) refl
@@ -101,6 +96,9 @@ module _ (s : Station) (e : Event) (r : Outcome) (t : T (sound standard s)) (k :
       go : (n : ℕ) → refusal (view s) e ≡ n → After
       go zero z = accepted-after z
       go (suc n) z = refused-after n z
+
+  stepped : T (sound standard (r .station)) × Stepped standard (view s) e (view (r .station)) (answered (r .answer))
+  stepped = let w = after .1 in (after .0, record { station = ap (λ (x : Model.Outcome). x .station) w; answer = same (ap (λ (x : Model.Outcome). x .answer) w) })
 
 -- ---- every list of calls
 still-sound : (s : Station) (e : Event) (r : Outcome) → T (sound standard s) → Called standard s e r → T (sound standard (r .station))
@@ -120,15 +118,15 @@ sound-run s t (c ∷ calls) now q =
 pub watched : (width : ℕ) (switching : Bool) (s : Station) → T (sound standard s) → view s ≡ fresh width switching → Watched standard width switching s
 watched width switching s t b = record {
   holds = program-watch standard standard-good standard-held width switching stationOf view (λ (r : Outcome). answered (r .answer)) (Called standard) (λ (x : Station). T (sound standard x))
-      (λ x e r t k c d. after x e r t k d) s t b;
+      (λ x e r t k c d. stepped x e r t (k .unready) d) s t b;
   stays = sound-run s t;
 }
 
 -- ---- a start
-pub begins : (w : ℕ) (b : Bool) (s : Station) → w ≤ widest → (view s ≡ fresh w b) × Solid s → Begins standard w b Done s
+pub begins : (w : ℕ) (b : Bool) (s : Station) → w ≤ widest → (view s ≡ fresh w b) × Steady s → Begins standard w b Done s
 begins w b s h k =
     let e : leb w widest ≡ true = le-leb w widest h in
-    let t = solid-sound s (k .1) in
+    let t = solid-sound s (k .1 .solid) in
     record {
       says = sym (ap (λ (x : Bool). unless (cond x 0 3) done) e);
       state = k .0 ∙ sym (ap (λ (x : Bool). cond x (fresh w b) (fresh 1 false)) e);
@@ -136,10 +134,10 @@ begins w b s h k =
       watch = subst (λ (x : Bool). Watched standard (cond x w 1) (cond x b false) s) (sym e) (watched w b s t (k .0));
     }
 
-pub begins-not : (w : ℕ) (b : Bool) (s : Station) → widest < w → (view s ≡ fresh 1 false) × Solid s → Begins standard w b (Refused 3) s
+pub begins-not : (w : ℕ) (b : Bool) (s : Station) → widest < w → (view s ≡ fresh 1 false) × Steady s → Begins standard w b (Refused 3) s
 begins-not w b s h k =
     let e : leb w widest ≡ false = lt-leb w widest h in
-    let t = solid-sound s (k .1) in
+    let t = solid-sound s (k .1 .solid) in
     record {
       says = sym (ap (λ (x : Bool). unless (cond x 0 3) done) e);
       state = k .0 ∙ sym (ap (λ (x : Bool). cond x (fresh w b) (fresh 1 false)) e);

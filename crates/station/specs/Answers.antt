@@ -4,7 +4,7 @@ use mathlib.Core.Bool.{Bool, false, cond, _&&_}
 use mathlib.Core.List.{List, map}
 use Prim.Native.Nat.{ℕ, _≤_}
 use lib.Dec.{T, leb}
-use lib.Ieee.{Float}
+use lib.Ieee.{Float, binary32, ofBits}
 use Rattle.ranges.specs.Settings.{Settings}
 use Rattle.tracker.specs.declared.Told.{Told}
 use Rattle.tracker.specs.Answers.{done, ofTold, unless}
@@ -89,13 +89,15 @@ pub record Glimpse : Type 0 where
 abbrev pub glimpse : Hyp → Glimpse
 glimpse h = record { serial = h .serial; dit = h .tracker .pair .lo; dah = h .tracker .pair .hi; score = h .score }
 
-abbrev pub placed : Place → Glimpse → Shown Glimpse
-placed Held g = shown g
-placed Absent g = nothing
-placed (Refused n) g = barred n
+-- what stands where there is no challenger
+abbrev pub unseen : Glimpse
+unseen = record { serial = 0; dit = ofBits binary32 0; dah = ofBits binary32 0; score = ofBits binary32 0 }
 
-abbrev pub seen : Rival → Glimpse
-seen r = record { serial = r .serial; dit = r .«dit_ms»; dah = r .«dah_ms»; score = r .score }
+-- the answer that tells it
+abbrev pub placed : Place → Glimpse → Rival
+placed p g = record { place = p; serial = g .serial; «dit_ms» = g .dit; «dah_ms» = g .dah; score = g .score }
 
-abbrev pub ofRival : Rival → Shown Glimpse
-ofRival r = placed (r .place) (seen r)
+abbrev pub rivalOf : Shown Glimpse → Rival
+rivalOf (shown g) = placed Held g
+rivalOf nothing = placed Absent unseen
+rivalOf (barred n) = placed (Refused n) unseen

@@ -1,5 +1,7 @@
 -- What the parts of the code ask of a station: soundness, part by part. Definitions only.
 use mathlib.Core.Path.{_≡_}
+use mathlib.Core.Bool.{false}
+use mathlib.Core.Option.{none}
 use Prim.Native.Nat.{ℕ, _+_, _≤_, _<_}
 use lib.Dec.{T, eqb, ltb}
 use lib.ListN.{length}
@@ -15,7 +17,7 @@ use Rattle.bank.specs.Switching.{Chosen}
 use Rattle.station_model.specs.declared.Event.{Event}
 use Rattle.station_model.specs.declared.Event.the-variants.{Mark, Gap, Finish, Seed, Hint, Clear, Switch}
 use Rattle.station_model.specs.declared.Counts.{Counts}
-use Rattle.station_model.specs.Station.{ind, isCause}
+use Rattle.station_model.specs.Station.{ind, isCause, ready, step}
 use Rattle.station_model.specs.Station as Model
 use Rattle.station_model.specs.Watch.{among}
 use Rattle.station.specs.declared.Station.{Station}
@@ -52,6 +54,11 @@ pub record Solid (s : Station) : Type 0 where
   pub bank : Sturdy (s .bank)
   pub books : Booked (view s)
 
+-- what every station from a fresh one has: it is sound, and nothing is pending while the primary is unready (refusal 1 asks the second only at a switch)
+pub record Steady (s : Station) : Type 0 where
+  pub solid : Solid s
+  pub unready : ready (view s .primary) ≡ false → view s .bank .pending ≡ none
+
 -- refusal 2 does not hold
 pub record Open (s : Station) : Type 0 where
   pub bank : Banked.Countable (s .bank)
@@ -72,4 +79,10 @@ pub record Stands (r : Outcome) (m : Model.Outcome) : Type 0 where
   pub is : outcome r ≡ m
   pub primary : T (Tracking.sound standard (r .station .primary))
   pub bank : Sturdy (r .station .bank)
+  pub few : r .answer .«left_len» ≤ 9
+
+-- a call on a steady station is what the definitions say, refused or not, and never refused by 1; the station is steady again
+pub record Next (s : Station) (e : Event) (r : Outcome) : Type 0 where
+  pub is : outcome r ≡ step standard (view s) e
+  pub steady : Steady (r .station)
   pub few : r .answer .«left_len» ≤ 9

@@ -4,12 +4,11 @@ use crate::Outcome;
 use crate::Rival;
 use crate::Started;
 use crate::Station;
-use crate::inner::events::step;
+use crate::inner::call as known;
 use crate::inner::fresh as begun;
 use crate::inner::readers::count_of;
 use crate::inner::readers::glimpse;
 use crate::inner::readers::no_rival;
-use crate::inner::refusals::call_refusal;
 use crate::inner::refusals::refuse;
 use crate::inner::sound::is_sound;
 use bank::Place;
@@ -28,7 +27,7 @@ ghost use Rattle.tracker.specs.Steps.{ditEstimate};
 ghost use Rattle.tracker.specs.Answers.{count, flag, number, ofFlag, ofReading, optional, unless};
 ghost use Rattle.bank.specs.Answers.{ofTally, showing};
 ghost use Rattle.station.specs.View.{view};
-ghost use Rattle.station.specs.Answers.{Begins, Called, countOf, glimpse, ofRival, stationThen};
+ghost use Rattle.station.specs.Answers.{Begins, Called, countOf, glimpse, rivalOf, stationThen};
 
 impl Station {
     // A fresh station; one of width 1 that does not switch, where the width is above 8. What it promises of every list of calls is
@@ -52,11 +51,10 @@ impl Station {
     pub fn call(self, event: Event) -> Outcome
         ensures { λ r. ⌜ Called standard self event r ⌝ }
     {
-        let n = call_refusal(self, event);
-        if n == 0 {
-            return step(self, event);
+        if is_sound(self) {
+            return known::call(self, event);
         }
-        refuse(self, n)
+        refuse(self, 1)
     }
 
     // Whether the primary is ready.
@@ -176,7 +174,7 @@ impl Station {
 
     // The i-th challenger, in bank order.
     pub fn challenger(self, i: usize) -> Rival
-        ensures { λ r. ⌜ ofRival r ≡ showing (stationThen standard self 0) (getElem? (map glimpse (view self .bank .challengers)) i) ⌝ }
+        ensures { λ r. ⌜ r ≡ rivalOf (showing (stationThen standard self 0) (getElem? (map glimpse (view self .bank .challengers)) i)) ⌝ }
     {
         if is_sound(self) {
             let b = self.bank;

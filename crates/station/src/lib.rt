@@ -38,7 +38,7 @@ pub struct Started {
     pub station: Station,
 }
 
-// What a host shows of a challenger; where there is none, the numbers say nothing.
+// What a host shows of a challenger; where there is none, the numbers are 0.
 pub struct Rival {
     pub place: Place,
     pub serial: u64,

@@ -8,12 +8,12 @@ ghost use Prim.Native.Nat.{_≤_};
 ghost use Rattle.bank.specs.Parts.{widest};
 ghost use Rattle.station_model.specs.Station.{fresh};
 ghost use Rattle.station.specs.View.{view};
-ghost use Rattle.station.specs.Parts.{Solid};
+ghost use Rattle.station.specs.Parts.{Steady};
 
 // A fresh tracker as primary and a fresh bank, all counts 0; width 0 counts as 1.
 pub fn fresh(width: usize, switching: bool) -> Station
     requires { ⌜ width ≤ widest ⌝ }
-    ensures { λ r. ⌜ (view r ≡ fresh width switching) × Solid r ⌝ }
+    ensures { λ r. ⌜ (view r ≡ fresh width switching) × Steady r ⌝ }
 {
     let primary = of_tracker::fresh();
     let bank = of_bank::fresh(width, switching);

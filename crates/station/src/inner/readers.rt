@@ -6,8 +6,8 @@ use rival::TimingHypothesis;
 use station_model::Counts;
 ghost use mathlib.Core.Path.{_≡_};
 ghost use Rattle.rival.specs.View.{viewHyp};
-ghost use Rattle.bank.specs.Answers.{shown};
-ghost use Rattle.station.specs.Answers.{countOf, glimpse, ofRival};
+ghost use Rattle.bank.specs.declared.Place.the-variants.{Held};
+ghost use Rattle.station.specs.Answers.{countOf, glimpse, placed, unseen};
 
 // How many left by a cause.
 pub(crate) fn count_of(c: Counts, cause: Cause) -> u64
@@ -24,7 +24,7 @@ pub(crate) fn count_of(c: Counts, cause: Cause) -> u64
 
 // What is shown of a challenger.
 pub(crate) fn glimpse(h: TimingHypothesis) -> Rival
-    ensures { λ r. ⌜ ofRival r ≡ shown (glimpse (viewHyp h)) ⌝ }
+    ensures { λ r. ⌜ r ≡ placed Held (glimpse (viewHyp h)) ⌝ }
 {
     let t = h.tracker;
     let p = t.pair;
@@ -39,7 +39,7 @@ pub(crate) fn glimpse(h: TimingHypothesis) -> Rival
 
 // The answer that there is no challenger.
 pub(crate) fn no_rival(place: Place) -> Rival
-    ensures { λ r. ⌜ r .place ≡ place ⌝ }
+    ensures { λ r. ⌜ r ≡ placed place unseen ⌝ }
 {
     Rival {
         place,

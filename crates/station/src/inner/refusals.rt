@@ -3,7 +3,6 @@ use crate::Answer;
 use crate::Outcome;
 use crate::Station;
 use crate::inner::accept::nobody;
-use crate::inner::sound::is_sound;
 use ranges::duration_refusal;
 use ranges::is_positive;
 use station_model::Code;
@@ -83,17 +82,16 @@ pub(crate) fn is_full(s: Station) -> bool
     4294967295 <= s.accepted
 }
 
-// Refusals 1, 2 and 5 to 8.
+// Refusals 1, 2 and 5 to 8, of a sound station: 1 is that of a choice at a switch.
 pub(crate) fn call_refusal(s: Station, e: Event) -> u8
-    ensures { λ r. ⌜ (r ≡ callRefusal standard s e) × (r ≡ 0 → Solid s) ⌝ }
+    requires { ⌜ Solid s ⌝ }
+    ensures { λ r. ⌜ r ≡ callRefusal standard s e ⌝ }
 {
-    if is_sound(s) {
-        if is_choice_sound(s, e) {
-            if is_full(s) {
-                return 2;
-            }
-            return fault(e);
+    if is_choice_sound(s, e) {
+        if is_full(s) {
+            return 2;
         }
+        return fault(e);
     }
     1
 }

@@ -1,26 +1,26 @@
 -- `station::Station::call` meets its contract. Assumes nothing.
 use mathlib.Core.Path.{sym, _∙_}
-use Rattle.station.proofs.Refusing.{accepted-of, accepted-open, accepted-fair}
-use Rattle.station.proofs.Answering.{answers, answers-not}
+use native.Mathlib.Omega.{arith}
+use Rattle.station.proofs.Refusing.{unsound-by}
+use Rattle.station.proofs.Answering.{answers-not}
 use borrow.Author.Needs.{needs}
 use Rattle.station.proofs.Station.call.Statement.{statement}
 use Rattle.station.proofs.Station.call.Tie as tie
 
-call-refusal-requires : tie.Need-call-refusal-requires
-call-refusal-requires c κs = search needs
+is-sound-requires : tie.Need-is-sound-requires
+is-sound-requires c κs = search needs
 
-step-requires : tie.Need-step-requires
-step-requires c κs = let s = c .before .before .args .self in let e = c .before .before .args .event in let a = accepted-of (c .before .before .args .self) (c .before .before .args .event) (sym (c .before .call-refusal .ensures .0) ∙ c .if1 .taken) in ((c .before .call-refusal .ensures .1 (c .if1 .taken), accepted-open s e a), accepted-fair s e a)
+call-requires : tie.Need-call-requires
+call-requires c κs = c .before .is-sound .ensures .1 (c .if1 .taken)
 
 returns : tie.Need-returns
-returns c = answers (c .before .before .before .args .self) (c .before .before .before .args .event) (c .step .result) _ (c .before .before .call-refusal .ensures .0) (c .before .if1 .taken) (c .before .before .call-refusal .ensures .1 (c .before .if1 .taken)) (c .step .ensures)
+returns c = search needs
 
 refuse-requires : tie.Need-refuse-requires
 refuse-requires c κs = search needs
 
 returns-2 : tie.Need-returns-2
-returns-2 c = answers-not (c .before .before .before .args .self) (c .before .before .before .args .event) (c .refuse .result) _ (c .before .before .call-refusal .ensures .0) (c .before .if1 .left) (c .refuse .ensures)
+returns-2 c = let s = c .before .before .before .args in answers-not (s .self) (s .event) (c .refuse .result) _ (unsound-by (s .self) (s .event) (sym (c .before .before .is-sound .ensures .0) ∙ c .before .if1 .left)) (λ z. omega arith) (c .refuse .ensures)
 
 pub call-spec : {M : Type 1} → statement M
-call-spec =
-    tie.close (tie.spec call-refusal-requires step-requires returns refuse-requires returns-2)
+call-spec = tie.close (tie.spec is-sound-requires call-requires returns refuse-requires returns-2)

@@ -1,8 +1,7 @@
 -- `station::Station::challenger` meets its contract. Assumes nothing.
 use mathlib.Core.Path.{ap, sym, _∙_}
 use native.Mathlib.Omega.{arith}
-use Rattle.bank.specs.declared.Place.{Place}
-use Rattle.station.specs.Answers.{placed, seen}
+use Rattle.station.specs.Answers.{rivalOf}
 use Rattle.station.proofs.Answering.{shows, shows-not, held, gone}
 use borrow.Author.Needs.{needs}
 use Rattle.station.proofs.Station.challenger.Statement.{statement}
@@ -21,19 +20,19 @@ glimpse-requires : tie.Need-glimpse-requires
 glimpse-requires c κs = search needs
 
 returns : tie.Need-returns
-returns c = let k = c .before .before .before .before .before .is-sound .ensures .1 (c .before .before .before .before .if1 .taken) .bank .steady .crew in let n = k .few in let l = k .long in let s = c .before .before .before .before .before .before .args .self in shows s _ _ (sym (c .before .before .before .before .before .is-sound .ensures .0) ∙ c .before .before .before .before .if1 .taken) (c .glimpse .ensures ∙ held (s .bank .challengers) (s .bank .«challengers_len») _ (omega arith) _ (c .before .before .if2 .taken))
+returns c = let k = c .before .before .before .before .before .is-sound .ensures .1 (c .before .before .before .before .if1 .taken) .bank .steady .crew in let n = k .few in let l = k .long in let s = c .before .before .before .before .before .before .args .self in c .glimpse .ensures ∙ ap rivalOf (shows s _ _ (sym (c .before .before .before .before .before .is-sound .ensures .0) ∙ c .before .before .before .before .if1 .taken) (held (s .bank .challengers) (s .bank .«challengers_len») _ (omega arith) _ (c .before .before .if2 .taken)))
 
 no-rival-requires : tie.Need-no-rival-requires
 no-rival-requires c κs = search needs
 
 returns-2 : tie.Need-returns-2
-returns-2 c = let k = c .before .before .before .before .is-sound .ensures .1 (c .before .before .before .if1 .taken) .bank .steady .crew in let n = k .few in let l = k .long in let s = c .before .before .before .before .before .args .self in shows s _ _ (sym (c .before .before .before .before .is-sound .ensures .0) ∙ c .before .before .before .if1 .taken) (ap (λ (p : Place). placed p (seen (c .no-rival .result))) (c .no-rival .ensures) ∙ gone (s .bank .challengers) (s .bank .«challengers_len») _ (omega arith) (c .before .if2 .left))
+returns-2 c = let k = c .before .before .before .before .is-sound .ensures .1 (c .before .before .before .if1 .taken) .bank .steady .crew in let n = k .few in let l = k .long in let s = c .before .before .before .before .before .args .self in c .no-rival .ensures ∙ ap rivalOf (shows s _ _ (sym (c .before .before .before .before .is-sound .ensures .0) ∙ c .before .before .before .if1 .taken) (gone (s .bank .challengers) (s .bank .«challengers_len») _ (omega arith) (c .before .if2 .left)))
 
 no-rival-requires-2 : tie.Need-no-rival-requires-2
 no-rival-requires-2 c κs = search needs
 
 returns-3 : tie.Need-returns-3
-returns-3 c = ap (λ (p : Place). placed p (seen (c .no-rival2 .result))) (c .no-rival2 .ensures) ∙ shows-not (c .before .before .before .args .self) _ (sym (c .before .before .is-sound .ensures .0) ∙ c .before .if1 .left)
+returns-3 c = c .no-rival2 .ensures ∙ ap rivalOf (shows-not (c .before .before .before .args .self) _ (sym (c .before .before .is-sound .ensures .0) ∙ c .before .if1 .left))
 
 pub challenger-spec : {M : Type 1} → statement M
 challenger-spec =
