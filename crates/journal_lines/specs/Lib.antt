@@ -1,0 +1,5 @@
+pub mod Journal
+pub mod Whole
+pub mod Pieces
+pub mod Parts
+pub mod Runs

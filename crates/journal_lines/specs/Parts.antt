@@ -1,0 +1,97 @@
+-- What the parts of the code say. Definitions only.
+use mathlib.Core.Path.{_≡_}
+use mathlib.Core.Bool.{Bool, true, false, cond}
+use mathlib.Core.List.{List, [], _∷_, _++_}
+use mathlib.Core.Option.{Option, none, some}
+use Prim.Native.Nat.{ℕ, suc, _+_, _-_, _≤_, _<_}
+use lib.Dec.{eqb}
+use lib.ListN.{length, take, drop}
+use Rattle.station.specs.declared.Station.{Station}
+use Rattle.station.specs.View.{view}
+use Rattle.station.specs.Parts.{Steady}
+use Rattle.station_model.specs.Station as Model
+use Rattle.ranges.specs.Settings.{standard}
+use Rattle.line_out.specs.Shown.{line}
+use Rattle.journal_lines.specs.declared.Fed.{Fed}
+use Rattle.journal_lines.specs.declared.Gathered.{Gathered}
+use Rattle.journal_lines.specs.declared.Journal.{Journal}
+use Rattle.journal_lines.specs.declared.Turned.{Turned}
+use Rattle.journal_lines.specs.declared.Written.{Written}
+use Rattle.journal_lines.specs.Journal.{Turn}
+use Rattle.journal_lines.specs.Pieces.{hold, feed, within}
+use Rattle.journal_lines.specs.Pieces as Pieces
+
+-- ---- the station of a journal
+
+-- where no `W` was good, there is none
+abbrev pub reading : Bool → Station → Option Model.Station
+reading begun s = cond begun (some (view s)) none
+
+-- where there is one, it is sound, and nothing is pending beside an unready primary
+abbrev pub Lives : Bool → Station → Type 0
+Lives begun s = begun ≡ true → Steady s
+
+-- a line's answer is as the definitions say
+pub record Answered (r : Turned) (t : Turn) : Type 0 where
+  pub station : reading (r .begun) (r .station) ≡ t .station
+  pub shown : r .shown ≡ t .shown
+  pub lives : Lives (r .begun) (r .station)
+
+-- ---- the bytes of a piece up to its first newline
+
+-- how many there are, the newline with them
+unfoldable pub upToNewline : List ℕ → ℕ
+upToNewline [] = 0
+upToNewline (b ∷ l) = cond (eqb b 10) 1 (suc (upToNewline l))
+
+-- whether there is one
+unfoldable pub hasNewline : List ℕ → Bool
+hasNewline [] = false
+hasNewline (b ∷ l) = cond (eqb b 10) true (hasNewline l)
+
+-- what is held after those before it
+unfoldable pub keeps : List ℕ → List ℕ → List ℕ
+keeps h [] = h
+keeps h (b ∷ l) = cond (eqb b 10) h (keeps (hold h b) l)
+
+pub record Gathers (was piece : List ℕ) (r : Gathered) : Type 0 where
+  pub held : take (r .«held_len») (r .held) ≡ keeps was piece
+  pub long : length (r .held) ≡ 80
+  pub few : r .«held_len» ≤ 80
+  pub took : r .took ≡ upToNewline piece
+  pub ended : r .ended ≡ hasNewline piece
+
+-- ---- a journal
+
+-- "Places beyond a count .. are no part of a state"
+abbrev pub viewed : Journal → Pieces.Journal
+viewed j = record { station = reading (j .begun) (j .station); held = take (j .«held_len») (j .held); left = j .left }
+
+-- what every journal from the start on has
+pub record Goes (j : Journal) : Type 0 where
+  pub lives : Lives (j .begun) (j .station)
+  pub long : length (j .held) ≡ 80
+  pub few : j .«held_len» ≤ 80
+
+-- a line's answer is written at the front of a buffer, and what stands behind it is left as it was
+pub record Writes (r : Written) (was is : List ℕ) (t : Turn) : Type 0 where
+  pub station : reading (r .begun) (r .station) ≡ t .station
+  pub lives : Lives (r .begun) (r .station)
+  pub put : r .put ≡ length (line (t .shown))
+  pub room : r .put ≤ length was
+  pub out : is ≡ line (t .shown) ++ drop (length (line (t .shown))) was
+
+-- so many bytes of a piece were fed: the journal, and what was written at the front of the buffer
+pub record Feeds (j : Journal) (piece was is : List ℕ) (r : Fed) : Type 0 where
+  pub few : r .used ≤ length piece
+  pub journal : viewed (r .journal) ≡ feed standard (viewed j) (take (r .used) piece) .journal
+  pub put : r .put ≡ length (feed standard (viewed j) (take (r .used) piece) .put)
+  pub out : is ≡ feed standard (viewed j) (take (r .used) piece) .put ++ drop (r .put) was
+  pub goes : Goes (r .journal)
+
+-- one line of it, or all where no newline is in it: and it goes on from there
+pub record Advances (j : Journal) (piece was is : List ℕ) (r : Fed) : Type 0 where
+  pub feeds : Feeds j piece was is r
+  pub moves : 0 < length piece → 0 < r .used
+  pub room : r .put ≤ length was
+  pub onward : (room : ℕ) → 80 ≤ room → within standard room (viewed j) piece ≡ r .used + within standard (room - r .put) (viewed (r .journal)) (drop (r .used) piece)
