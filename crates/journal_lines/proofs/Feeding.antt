@@ -77,6 +77,12 @@ module _ (k : Settings) where
   within-full room h j [] = refl
   within-full room h j (b ∷ l) = rw (lt-leb 80 room h)
 
+  -- where there is, one is
+  pub within-some : (room : ℕ) → 80 ≤ room → (j : Journal) (l : List ℕ) → 0 < length l → 0 < within k room j l
+  unfolding within
+  within-some room h j [] g = g
+  within-some room h j (b ∷ l) g = rw (le-leb 80 room h) (omega arith)
+
   -- ---- where no line may be read any more
 
   pub feed-spent : (j : Journal) → j .left ≡ 0 → (l : List ℕ) → feed k j l ≡ record { journal = j; put = [] }
