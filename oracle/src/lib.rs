@@ -4,6 +4,9 @@ pub mod bench;
 pub mod compare;
 pub mod exhaustive;
 pub mod hullathan;
+#[cfg(manta)]
+pub mod journal;
+pub mod keyed;
 pub mod keying;
 pub mod layers;
 pub mod log01;

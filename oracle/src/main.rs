@@ -3,6 +3,7 @@
 use oracle::compare::Limit;
 use oracle::layers::{Entry, LAYERS};
 use oracle::{bench, exhaustive};
+use std::io::Write;
 use std::process::ExitCode;
 use std::time::Duration;
 
@@ -16,6 +17,9 @@ oracle bench tracker               nanoseconds for one mark, beside manta's
 oracle bench bank                  the same of a bank
 oracle bench station               nanoseconds for one mark, one gap and one switch call of a station
 oracle replay LAYER DIR            the list of calls for `sender_replay` or `tracker_replay`: DIR/stdin, and DIR/stdout, what it must print
+oracle keyed [--width W] [--switching 0|1] [--seed S] {[--wpm N] [--ratio R] [--jitter PERCENT] TEXT | --line LINE}..
+                                   the journal of keyed text, each option from its place on; a line has blanks for tabs
+oracle journal                     document 01's journal program over manta's Rust: standard input to standard output
 ";
 
 /// What a command that needs manta's Rust says without it.
@@ -83,6 +87,23 @@ fn replay(_: &str, _: &str) -> Result<bool, String> {
     Ok(false)
 }
 
+/// Document 01's journal program over manta's Rust.
+#[cfg(manta)]
+fn journal() -> Result<bool, String> {
+    let (input, output) = (std::io::stdin().lock(), std::io::stdout().lock());
+    if let Err(e) = oracle::journal::run(input, output) {
+        eprintln!("oracle: {e}");
+        return Ok(false);
+    }
+    Ok(true)
+}
+
+#[cfg(not(manta))]
+fn journal() -> Result<bool, String> {
+    eprintln!("{NO_MANTA}");
+    Ok(false)
+}
+
 /// Whether the command found nothing wrong.
 fn command(words: &[String]) -> Result<bool, String> {
     let (first, rest) = words.split_first().ok_or("a command is wanted")?;
@@ -119,6 +140,11 @@ fn command(words: &[String]) -> Result<bool, String> {
             Ok(false)
         }
         ("replay", Some((name, [folder]))) => replay(name, folder),
+        ("keyed", Some(_)) => {
+            let journal = oracle::keyed::command(rest)?;
+            Ok(std::io::stdout().write_all(&journal).is_ok())
+        }
+        ("journal", None) => journal(),
         _ => Err("the command is not known".into()),
     }
 }
