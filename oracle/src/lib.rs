@@ -2,6 +2,8 @@
 
 pub mod bench;
 pub mod compare;
+#[cfg(manta)]
+pub mod examples;
 pub mod exhaustive;
 pub mod hullathan;
 #[cfg(manta)]

@@ -19,6 +19,7 @@ oracle bench station               nanoseconds for one mark, one gap and one swi
 oracle replay LAYER DIR            the list of calls for `sender_replay` or `tracker_replay`: DIR/stdin, and DIR/stdout, what it must print
 oracle keyed [--width W] [--switching 0|1] [--seed S] {[--wpm N] [--ratio R] [--jitter PERCENT] TEXT | --line LINE}..
                                    the journal of keyed text, each option from its place on; a line has blanks for tabs
+oracle examples DIR                the example journals and the Rust's answers: DIR/NAME.journal and DIR/NAME.out
 oracle journal                     document 01's journal program over manta's Rust: standard input to standard output
 ";
 
@@ -70,19 +71,39 @@ fn compare(name: &str, words: &[String]) -> Result<bool, String> {
     Ok((entry.report)(seed, limit))
 }
 
+#[cfg(manta)]
+fn write(folder: &str, file: &str, bytes: &[u8]) -> Result<(), String> {
+    let path = std::path::Path::new(folder).join(file);
+    std::fs::write(&path, bytes).map_err(|e| format!("{}: {e}", path.display()))
+}
+
 /// Writes the files of a replaying program, from manta's Rust.
 #[cfg(manta)]
 fn replay(name: &str, folder: &str) -> Result<bool, String> {
     let files = oracle::replay::files(name).ok_or_else(|| format!("nothing replays {name}"))?;
     for (file, text) in [("stdin", files.stdin), ("stdout", files.stdout)] {
-        let path = std::path::Path::new(folder).join(file);
-        std::fs::write(&path, text).map_err(|e| format!("{}: {e}", path.display()))?;
+        write(folder, file, text.as_bytes())?;
     }
     Ok(true)
 }
 
 #[cfg(not(manta))]
 fn replay(_: &str, _: &str) -> Result<bool, String> {
+    println!("{NO_MANTA}");
+    Ok(false)
+}
+
+/// Writes the example journals and their answers.
+#[cfg(manta)]
+fn examples(folder: &str) -> Result<bool, String> {
+    for (file, bytes) in oracle::examples::EXAMPLES.iter().flat_map(|e| e.files()) {
+        write(folder, &file, &bytes)?;
+    }
+    Ok(true)
+}
+
+#[cfg(not(manta))]
+fn examples(_: &str) -> Result<bool, String> {
     println!("{NO_MANTA}");
     Ok(false)
 }
@@ -140,6 +161,7 @@ fn command(words: &[String]) -> Result<bool, String> {
             Ok(false)
         }
         ("replay", Some((name, [folder]))) => replay(name, folder),
+        ("examples", Some((folder, []))) => examples(folder),
         ("keyed", Some(_)) => {
             let journal = oracle::keyed::command(rest)?;
             Ok(std::io::stdout().write_all(&journal).is_ok())
