@@ -212,6 +212,8 @@ pub fn answers(journal: &[u8]) -> Vec<u8> {
 #[cfg(test)]
 mod tests {
     use super::*;
+    use crate::layers::station::{watched_case, Both, Call};
+    use crate::random::Random;
 
     fn answered(journal: &[u8]) -> String {
         String::from_utf8(answers(journal)).expect("answers are plain text")
@@ -324,5 +326,33 @@ G\t1\nM\t16777216\t0\nS\t99999999\nG\t0\nS\t1\n";
             assert_eq!(out.iter().filter(|&&b| b == b'\n').count(), 3);
         }
         assert_eq!(Journal::new().left, 4_294_967_295);
+    }
+
+    /// What a line shows is what the station shows that the library is compared with.
+    #[test]
+    fn as_the_station() {
+        for seed in 1..200 {
+            let (mut both, mut station) = (Both::new(), Station::fresh(1, false));
+            for call in watched_case(&mut Random::new(seed)) {
+                let answer = both.step(&call).expect("the library and the Rust agree");
+                match call {
+                    Call::Fresh(width, switching) if !answer.refused => {
+                        station = Station::fresh(width, switching);
+                    }
+                    Call::Event(e) if !answer.refused => {
+                        assert_eq!(station.call(e.kind, e.number(), e.live), answer.code);
+                    }
+                    _ => {}
+                }
+                let s = &both.ours;
+                let shown = Shown {
+                    dit: s.primary.pair.lo.to_bits(),
+                    dah: s.primary.pair.hi.to_bits(),
+                    serial: s.serial,
+                    challengers: s.bank.challengers_len as u64,
+                };
+                assert_eq!(station.shown(), shown);
+            }
+        }
     }
 }
