@@ -35,6 +35,11 @@ pub trait Layer {
     /// Smaller cases to try in place of one that shows a difference (`shrink` has what makes them).
     fn smaller(case: &Self::Case) -> Vec<Self::Case>;
 
+    /// The smallest case that still shows a difference, from one that does.
+    fn least(case: Self::Case) -> Self::Case {
+        shrink(case, Self::smaller, |c| Self::run(c).is_err())
+    }
+
     /// The branches that its runs count: a long run has to reach each.
     fn reached() -> &'static [&'static Branch] {
         &[]
@@ -81,8 +86,9 @@ pub enum Origin {
     Seed(u64),
 }
 
-fn found<L: Layer>(origin: Origin, case: L::Case, difference: Difference) -> Found<L::Case> {
-    let least = shrink(case.clone(), L::smaller, |c| L::run(c).is_err());
+/// What is said of a case that differs.
+pub fn found<L: Layer>(origin: Origin, case: L::Case, difference: Difference) -> Found<L::Case> {
+    let least = L::least(case.clone());
     let least_difference = L::run(&least).expect_err("a case that fails stays one that fails");
     Found {
         origin,
@@ -140,6 +146,12 @@ fn print_difference<C: Debug>(title: &str, case: &C, d: &Difference) {
     println!("    rust       {}", d.rust);
 }
 
+/// Prints a case that differs, and the smallest one that does.
+pub fn print_found<C: Debug>(f: &Found<C>) {
+    print_difference("case", &f.case, &f.difference);
+    print_difference("smallest", &f.least, &f.least_difference);
+}
+
 /// Runs a layer and prints what was seen. Whether nothing differed.
 pub fn report<L: Layer>(seed: u64, limit: Limit) -> bool {
     let start = Instant::now();
@@ -157,8 +169,7 @@ pub fn report<L: Layer>(seed: u64, limit: Limit) -> bool {
                 L::NAME
             ),
         }
-        print_difference("case", &f.case, &f.difference);
-        print_difference("smallest", &f.least, &f.least_difference);
+        print_found(f);
     }
     let seeds = match o.seeds {
         0 => "no seed".to_string(),

@@ -11,6 +11,8 @@ const USAGE: &str = "\
 oracle layers                      the layers that can be compared, and how many seconds the gate gives each
 oracle compare LAYER [--seed S] [--seconds T | --count N]
                                    the same cases to both sides, up to the first difference (10 seconds from seed 1)
+oracle soak journal [--seed S] [--lines N]
+                                   long journals through the journal program and the Rust's (200,000,000 lines from seed 1)
 oracle exhaustive [--threads N]    the f32 root and the logarithm over all 2^32 patterns (2 threads; minutes)
 oracle bench numbers               nanoseconds for each call, beside Rust's own
 oracle bench tracker               nanoseconds for one mark, beside manta's
@@ -93,6 +95,21 @@ fn replay(_: &str, _: &str) -> Result<bool, String> {
     Ok(false)
 }
 
+/// Long journals through the program and the Rust's.
+#[cfg(manta)]
+fn soak(words: &[String]) -> Result<bool, String> {
+    only(words, &["--seed", "--lines"])?;
+    let seed = option(words, "--seed")?.unwrap_or(1);
+    let lines = option(words, "--lines")?.unwrap_or(200_000_000);
+    Ok(oracle::layers::journal::soak::report(seed, lines))
+}
+
+#[cfg(not(manta))]
+fn soak(_: &[String]) -> Result<bool, String> {
+    println!("{NO_MANTA}");
+    Ok(false)
+}
+
 /// Writes the example journals and their answers.
 #[cfg(manta)]
 fn examples(folder: &str) -> Result<bool, String> {
@@ -136,6 +153,7 @@ fn command(words: &[String]) -> Result<bool, String> {
             Ok(true)
         }
         ("compare", Some((name, options))) => compare(name, options),
+        ("soak", Some((name, options))) if name == "journal" => soak(options),
         ("exhaustive", _) => {
             only(rest, &["--threads"])?;
             Ok(exhaustive::report(

@@ -1,6 +1,6 @@
 //! Document 01's "Journal program" over manta's tracker and bank: what the proved program's output is held to.
 
-mod line;
+pub(crate) mod line;
 
 use crate::layers::station::drive::Driven;
 use crate::layers::station::{Event, CLEAR, FINISH, GAP, HINT, MARK, SEED, SWITCH};

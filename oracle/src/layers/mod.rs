@@ -4,6 +4,8 @@ use crate::compare::{report, Limit};
 
 #[cfg(manta)]
 pub mod bank;
+#[cfg(manta)]
+pub mod journal;
 pub mod numbers;
 #[cfg(manta)]
 pub mod sender;
@@ -28,9 +30,10 @@ pub struct Entry {
 /// The layers beside manta's Rust; without it nothing is run.
 #[cfg(manta)]
 mod beside_manta {
-    use super::{bank, report, sender, station, tracker, Report};
+    use super::{bank, journal, report, sender, station, tracker, Report};
 
     pub const BANK: Report = report::<bank::Banks>;
+    pub const JOURNAL: Report = journal::report;
     pub const SENDER: Report = report::<sender::Sender>;
     pub const STATION: Report = report::<station::Stations>;
     pub const TRACKER: Report = report::<tracker::Tracker>;
@@ -41,6 +44,7 @@ mod beside_manta {
     use super::Report;
 
     pub const BANK: Report = |_, _| false;
+    pub const JOURNAL: Report = |_, _| false;
     pub const SENDER: Report = |_, _| false;
     pub const STATION: Report = |_, _| false;
     pub const TRACKER: Report = |_, _| false;
@@ -76,5 +80,11 @@ pub const LAYERS: &[Entry] = &[
         gate: 60,
         needs_manta: true,
         report: beside_manta::STATION,
+    },
+    Entry {
+        name: "journal",
+        gate: 45,
+        needs_manta: true,
+        report: beside_manta::JOURNAL,
     },
 ];
