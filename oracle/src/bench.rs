@@ -1,5 +1,8 @@
 //! How long a call takes, beside Rust's own, on the same inputs.
 
+#[cfg(manta)]
+pub mod journal;
+
 use crate::hullathan::numbers as ours;
 use crate::log01;
 use crate::random::Random;

@@ -18,6 +18,7 @@ oracle bench numbers               nanoseconds for each call, beside Rust's own
 oracle bench tracker               nanoseconds for one mark, beside manta's
 oracle bench bank                  the same of a bank
 oracle bench station               nanoseconds for one mark, one gap and one switch call of a station
+oracle bench journal               lines a second, start and memory of the journal program, beside the Rust's
 oracle replay LAYER DIR            the list of calls for `sender_replay` or `tracker_replay`: DIR/stdin, and DIR/stdout, what it must print
 oracle keyed [--width W] [--switching 0|1] [--seed S] {[--wpm N] [--ratio R] [--jitter PERCENT] TEXT | --line LINE}..
                                    the journal of keyed text, each option from its place on; a line has blanks for tabs
@@ -142,6 +143,25 @@ fn journal() -> Result<bool, String> {
     Ok(false)
 }
 
+/// Measures a layer beside manta's Rust.
+#[cfg(manta)]
+fn beside_manta(name: &str) -> Result<bool, String> {
+    match name {
+        "tracker" => bench::tracker(),
+        "bank" => bench::bank(),
+        "station" => bench::station(),
+        "journal" => return bench::journal::report(),
+        _ => return Err(format!("{name} is not measured")),
+    }
+    Ok(true)
+}
+
+#[cfg(not(manta))]
+fn beside_manta(_: &str) -> Result<bool, String> {
+    println!("{NO_MANTA}");
+    Ok(false)
+}
+
 /// Whether the command found nothing wrong.
 fn command(words: &[String]) -> Result<bool, String> {
     let (first, rest) = words.split_first().ok_or("a command is wanted")?;
@@ -164,20 +184,7 @@ fn command(words: &[String]) -> Result<bool, String> {
             bench::numbers();
             Ok(true)
         }
-        #[cfg(manta)]
-        ("bench", Some((name, []))) if ["tracker", "bank", "station"].contains(&name.as_str()) => {
-            match name.as_str() {
-                "tracker" => bench::tracker(),
-                "bank" => bench::bank(),
-                _ => bench::station(),
-            }
-            Ok(true)
-        }
-        #[cfg(not(manta))]
-        ("bench", Some((name, []))) if ["tracker", "bank", "station"].contains(&name.as_str()) => {
-            println!("{NO_MANTA}");
-            Ok(false)
-        }
+        ("bench", Some((name, []))) => beside_manta(name),
         ("replay", Some((name, [folder]))) => replay(name, folder),
         ("examples", Some((folder, []))) => examples(folder),
         ("keyed", Some(_)) => {
