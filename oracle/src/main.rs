@@ -19,7 +19,7 @@ oracle bench tracker               nanoseconds for one mark, beside manta's
 oracle bench bank                  the same of a bank
 oracle bench station               nanoseconds for one mark, one gap and one switch call of a station
 oracle bench journal               lines a second, start and memory of the journal program, beside the Rust's
-oracle replay LAYER DIR            the list of calls for `sender_replay` or `tracker_replay`: DIR/stdin, and DIR/stdout, what it must print
+oracle replay LAYER DIR            the fixed list of a layer's program: DIR/stdin, and DIR/stdout, what it must print
 oracle keyed [--width W] [--switching 0|1] [--seed S] {[--wpm N] [--ratio R] [--jitter PERCENT] TEXT | --line LINE}..
                                    the journal of keyed text, each option from its place on; a line has blanks for tabs
 oracle examples DIR                the example journals and the Rust's answers: DIR/NAME.journal and DIR/NAME.out
@@ -84,9 +84,8 @@ fn write(folder: &str, file: &str, bytes: &[u8]) -> Result<(), String> {
 #[cfg(manta)]
 fn replay(name: &str, folder: &str) -> Result<bool, String> {
     let files = oracle::replay::files(name).ok_or_else(|| format!("nothing replays {name}"))?;
-    for (file, text) in [("stdin", files.stdin), ("stdout", files.stdout)] {
-        write(folder, file, text.as_bytes())?;
-    }
+    write(folder, "stdin", &files.stdin)?;
+    write(folder, "stdout", files.stdout.as_bytes())?;
     Ok(true)
 }
 
@@ -114,7 +113,7 @@ fn soak(_: &[String]) -> Result<bool, String> {
 /// Writes the example journals and their answers.
 #[cfg(manta)]
 fn examples(folder: &str) -> Result<bool, String> {
-    for (file, bytes) in oracle::examples::EXAMPLES.iter().flat_map(|e| e.files()) {
+    for (file, bytes) in oracle::examples::files() {
         write(folder, &file, &bytes)?;
     }
     Ok(true)

@@ -147,6 +147,7 @@ pub fn answer(letter: u8, code: Code, s: &Shown, out: &mut Vec<u8>) {
 #[cfg(test)]
 mod tests {
     use super::*;
+    use crate::layers::journal::odd::BAD;
 
     #[test]
     fn good_lines() {
@@ -159,10 +160,10 @@ mod tests {
             ("M\t1\t0", Mark(1.0 / 64.0, false)),
             ("M\t00003200\t1", Mark(50.0, true)),
             ("M\t16777216\t1", Mark(262_144.0, true)),
-            ("M\t16777217\t1", Mark(262_144.03125, true)),
-            ("M\t99999999\t1", Mark(262_144.03125, true)),
+            ("M\t16777217\t1", Mark(16_777_218.0 / 64.0, true)),
+            ("M\t99999999\t1", Mark(16_777_218.0 / 64.0, true)),
             ("G\t0", Gap(0.0)),
-            ("G\t16777217", Gap(262_144.03125)),
+            ("G\t16777217", Gap(16_777_218.0 / 64.0)),
             ("S\t20", Seed(20.0)),
             ("S\t16777217", Seed(16_777_216.0)),
             ("S\t99999999", Seed(16_777_216.0)),
@@ -179,62 +180,7 @@ mod tests {
 
     #[test]
     fn bad_lines() {
-        let lines: &[&[u8]] = &[
-            b"",
-            b"\t",
-            b"?",
-            b"m\t3200\t1",
-            b"Q\t1",
-            // a field is missing
-            b"M",
-            b"M\t",
-            b"M\t3200",
-            b"M\t3200\t",
-            b"M\t\t1",
-            b"M\t1",
-            b"W\t2",
-            b"G",
-            b"G\t",
-            b"S\t",
-            b"H",
-            // one too many; a tab at the end is one
-            b"M\t3200\t1\t",
-            b"M\t3200\t1\t1",
-            b"M\t\t3200\t1",
-            b"\tM\t3200\t1",
-            b"G\t3200\t",
-            b"G\t3200\t1",
-            b"G\t\t3200",
-            b"F\t",
-            b"X\t1",
-            b"XX",
-            // what belongs to no field
-            b"M 3200 1",
-            b"M\t3200 \t1",
-            b"M\t+3200\t1",
-            b"G\t-1",
-            b"G\t1.5",
-            b"G\t0x10",
-            b"G\t3200\r",
-            b"F\r",
-            b"F\0",
-            b"G\t32\x0000",
-            b"G\t\xB3200",
-            b"\xCD\t3200\t1",
-            b"G\t\xEF\xBC\x91",
-            // a number of 9 digits, also with zeros first
-            b"M\t123456789\t1",
-            b"G\t000000001",
-            b"W\t000000002\t1",
-            // switching and live have one digit, 0 or 1
-            b"M\t3200\t2",
-            b"M\t3200\t01",
-            b"M\t3200\t10",
-            b"M\t3200\tx",
-            b"W\t2\t2",
-            b"W\t9\t2",
-        ];
-        for line in lines {
+        for line in BAD {
             assert_eq!(asked(line), None, "{}", line.escape_ascii());
         }
     }

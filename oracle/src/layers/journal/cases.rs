@@ -3,7 +3,7 @@
 use super::odd;
 use super::stream::{Mix, Stream};
 use super::Case;
-use crate::examples::EXAMPLES;
+use crate::examples::{EXAMPLES, MORE};
 use crate::layers::station::{watched_case, Call, Event};
 use crate::layers::station::{CLEAR, FINISH, GAP, HINT, MARK, SEED, SWITCH};
 use crate::random::Random;
@@ -141,15 +141,9 @@ pub fn random(random: &mut Random) -> Case {
     w.end()
 }
 
-/// Document 01's worked example.
-pub const WORKED: &[u8] = b"W\t2\t1\nM\t3200\t1\nM\t9600\t1\nF\nX\n";
-
-/// It, the examples of the repository, and journals of no line or of one.
+/// The examples of the repository, document 01's among them, and the program's own list.
 pub fn fixed() -> Vec<Case> {
-    let few: [&[u8]; 6] = [b"", b"\n", b"X", b"W\t2\t1", b"W\t2\t1\n", WORKED];
-    let examples = EXAMPLES.iter().map(|e| Case(e.journal()));
-    few.iter()
-        .map(|j| Case(j.to_vec()))
-        .chain(examples)
-        .collect()
+    let examples = MORE.iter().chain(&EXAMPLES).map(|e| e.journal());
+    let list = crate::replay::journal::files().stdin;
+    examples.chain([list]).map(Case).collect()
 }

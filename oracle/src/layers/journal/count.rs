@@ -103,24 +103,17 @@ pub mod reached {
 use reached::*;
 
 /// Counts the lines of one journal, part by part.
+#[derive(Default)]
 pub struct Counter {
     station: bool,
     /// Whether a `W` was refused by 3.
     refused: bool,
     any: bool,
+    /// The digit of the last answer.
     challengers: u8,
 }
 
 impl Counter {
-    pub fn new() -> Counter {
-        Counter {
-            station: false,
-            refused: false,
-            any: false,
-            challengers: b'0',
-        }
-    }
-
     /// Counts a part and its answers; each part but the last of a journal ends with a newline.
     pub fn count(&mut self, part: &[u8], answers: &[u8]) {
         NOTHING.when(!self.any && part.is_empty());

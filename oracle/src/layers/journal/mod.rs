@@ -2,8 +2,8 @@
 //! compared.
 
 mod cases;
-mod count;
-mod odd;
+pub mod count;
+pub mod odd;
 pub mod program;
 pub mod soak;
 pub mod stream;
@@ -222,6 +222,9 @@ mod tests {
     use super::*;
     use crate::journal::answers;
 
+    /// Document 01's worked example.
+    const WORKED: &[u8] = b"W\t2\t1\nM\t3200\t1\nM\t9600\t1\nF\nX\n";
+
     /// A program of the shell that reads all and then does something.
     fn shell(then: &str) -> Program {
         Program {
@@ -244,8 +247,8 @@ mod tests {
 
     #[test]
     fn the_same_and_otherwise() {
-        let out = answers(cases::WORKED);
-        let with = |out: &[u8]| compare(&shell(&prints(out)), cases::WORKED);
+        let out = answers(WORKED);
+        let with = |out: &[u8]| compare(&shell(&prints(out)), WORKED);
         let parted = |lines| Err(Parted { lines, ended: None });
         assert_eq!(with(&out), Ok(5));
         // a byte that differs, one that is missing, a line too many, nothing at all
@@ -255,7 +258,7 @@ mod tests {
         assert_eq!(with(&out[..out.len() - 26]), parted(4));
         assert_eq!(with(&[&out[..], b"\n"].concat()), parted(5));
         assert_eq!(with(b""), parted(0));
-        let failed = compare(&shell(&format!("{}; exit 3", prints(&out))), cases::WORKED);
+        let failed = compare(&shell(&format!("{}; exit 3", prints(&out))), WORKED);
         assert!(failed.is_err_and(|p| p.lines == 5 && p.ended.is_some()));
         assert_eq!(compare(&shell("true"), b""), Ok(0));
     }
@@ -263,8 +266,8 @@ mod tests {
     /// A journal of parts is answered as a whole.
     #[test]
     fn in_parts() {
-        let out = answers(cases::WORKED);
-        let parts = lines(cases::WORKED).into_iter().map(<[u8]>::to_vec);
+        let out = answers(WORKED);
+        let parts = lines(WORKED).into_iter().map(<[u8]>::to_vec);
         assert_eq!(shell(&prints(&out)).compare(parts), Ok(5));
     }
 

@@ -6,15 +6,102 @@ use crate::random::Random;
 const STRAY: &[u8] = b"\t\t\r\0 +-.,?0123456789ACFGHMSWXZacfghmswx\x0B\x1A\x7F\x80\xA0\xCD\xFF";
 
 /// Numbers about the borders of what a journal can hold, as they are written.
-const NUMBERS: &[&str] = &[
+pub const NUMBERS: &[&str] = &[
     "0", "00000000", "1", "2", "00000001", "01", "63", "64", "65", "0064", "16777215", "16777216",
     "16777217", "16777218", "16777219", "99999999", "99999998", "10000000",
 ];
 
 /// The widths, about the widest, and how else they may be written.
-const WIDTHS: &[&str] = &[
+pub const WIDTHS: &[&str] = &[
     "0", "1", "2", "3", "4", "5", "6", "7", "8", "9", "10", "00000000", "00000001", "00000008",
     "00000009", "08", "16", "24", "99999999",
+];
+
+/// Lines of bad form, of every kind but the long ones.
+pub const BAD: &[&[u8]] = &[
+    b"",
+    b"\t",
+    b"?",
+    b"Q\t1",
+    b"\xFF",
+    b"w\t2\t1",
+    b"m\t3200\t1",
+    b"g\t3200",
+    b"s\t20",
+    b"h\t192",
+    b"f",
+    b"c",
+    b"x",
+    // a field is missing
+    b"M",
+    b"M\t",
+    b"M\t3200",
+    b"M\t3200\t",
+    b"M\t\t1",
+    b"M\t1",
+    b"W",
+    b"W\t2",
+    b"W\t2\t",
+    b"W\t\t1",
+    b"G",
+    b"G\t",
+    b"S",
+    b"S\t",
+    b"H",
+    b"H\t",
+    // one too many; a tab at the end is one
+    b"M\t3200\t1\t",
+    b"M\t3200\t1\t1",
+    b"M\t\t3200\t1",
+    b"\tM\t3200\t1",
+    b"G\t3200\t",
+    b"G\t3200\t1",
+    b"G\t\t3200",
+    b"W\t2\t1\t",
+    b"S\t20\t",
+    b"H\t192\t1",
+    b"F\t",
+    b"C\t",
+    b"X\t1",
+    b"XX",
+    // what belongs to no field
+    b"M 3200 1",
+    b"M3200\t1",
+    b"W 2 1",
+    b" X",
+    b"X ",
+    b"M\t3200 \t1",
+    b"M\t+3200\t1",
+    b"G\t-1",
+    b"G\t1.5",
+    b"G\t0x10",
+    b"G\t3200\r",
+    b"M\t3200\t1\r",
+    b"W\t2\t1\r",
+    b"G\t32\r00",
+    b"F\r",
+    b"\r",
+    b"F\0",
+    b"\0",
+    b"G\t32\x0000",
+    b"G\t\xB3200",
+    b"\xCD\t3200\t1",
+    b"G\t\xEF\xBC\x91",
+    // a number of 9 digits, also with zeros first
+    b"M\t123456789\t1",
+    b"G\t000000001",
+    b"W\t000000002\t1",
+    b"S\t000000020",
+    b"H\t100000000",
+    b"G\t00000000000000003200",
+    // switching and live have one digit, 0 or 1
+    b"M\t3200\t2",
+    b"M\t3200\t01",
+    b"M\t3200\t10",
+    b"M\t3200\tx",
+    b"W\t2\t01",
+    b"W\t2\t2",
+    b"W\t9\t2",
 ];
 
 /// A whole number of 1 to 8 digits: one of the borders, or any.
@@ -79,60 +166,19 @@ fn longer(random: &mut Random) -> Vec<u8> {
     line
 }
 
-/// The fields of a line that do not make a good one.
-fn misshapen(random: &mut Random) -> Vec<u8> {
-    let n = number(random);
-    let nine = 100_000_000 + random.below(900_000_000);
-    let lines = [
-        String::new(),
-        "M".into(),
-        "M\t".into(),
-        format!("M\t{n}"),
-        format!("M\t{n}\t"),
-        "M\t\t1".into(),
-        format!("M\t\t{n}\t1"),
-        format!("M\t{n}\t2"),
-        format!("M\t{n}\t9"),
-        format!("M\t{n}\t00"),
-        format!("M\t{n}\t01"),
-        format!("M\t{n}\tx"),
-        format!("M\t{nine}\t1"),
-        format!("M {n} 1"),
-        format!("M{n}"),
-        "W".into(),
-        "W\t2".into(),
-        "W\t2\t".into(),
-        "W\t9\t2".into(),
-        "W\t\t1".into(),
-        "W\t2\t2".into(),
-        format!("W\t{nine}\t0"),
-        "G".into(),
-        "G\t".into(),
-        format!("G\t{n}\t1"),
-        format!("G\t{nine}"),
-        format!("G\t0{n:0>8}"),
-        format!("G\t{n:0>20}"),
-        format!("G\t+{n}"),
-        format!("G\t-{n}"),
-        format!("G\t{n}.5"),
-        format!("G\t0x{n}"),
-        format!("G {n}"),
-        "S\t".into(),
-        format!("S\t{nine}"),
-        "H\t".into(),
-        format!("H\t{nine}"),
-        "F\t".into(),
-        "X\t1".into(),
-        "XX".into(),
-        format!("\tM\t{n}\t1"),
-        "m\t3200\t1".into(),
-        "x".into(),
-        "?\tR12".into(),
-        "q".into(),
-    ];
-    lines[random.below(lines.len() as u64) as usize]
-        .clone()
-        .into_bytes()
+/// A number of 9 digits or more.
+fn many_digits(random: &mut Random) -> Vec<u8> {
+    let n = 100_000_000 + random.below(900_000_000);
+    let zeros = number(random);
+    let letter = random.pick(b"GSH") as char;
+    let line = match random.below(5) {
+        0 => format!("M\t{n}\t1"),
+        1 => format!("W\t{n}\t0"),
+        2 => format!("{letter}\t{zeros:0>9}"),
+        3 => format!("{letter}\t{zeros:0>20}"),
+        _ => format!("{letter}\t{n}"),
+    };
+    line.into_bytes()
 }
 
 /// A line of about 80 bytes or of many more; a good one may stand at its head, or after its first 80.
@@ -175,7 +221,8 @@ pub fn odd(random: &mut Random) -> Vec<u8> {
         0..=3 => good(random),
         4..=6 => stray(random),
         7..=8 => longer(random),
-        9..=12 => misshapen(random),
+        9..=11 => random.pick(BAD).to_vec(),
+        12 => many_digits(random),
         13..=14 => long(random),
         _ => noise(random),
     }

@@ -104,7 +104,7 @@ impl Program {
 /// Feeds the program, and sends the Rust's answers to where the program's are read. A pipe holds few bytes, so neither runs far ahead.
 fn feed(parts: impl Iterator<Item = Vec<u8>>, stdin: ChildStdin, answers: Sender<Vec<u8>>) {
     let mut journal = Journal::new();
-    let mut counter = Counter::new();
+    let mut counter = Counter::default();
     let mut pieces = Pieces::new(stdin);
     for part in parts {
         let mut out = Vec::new();
