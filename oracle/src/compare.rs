@@ -15,6 +15,23 @@ pub struct Difference {
     pub rust: String,
 }
 
+/// Both sides say the same of one thing, at a call.
+pub fn agree<A: PartialEq<B> + Debug, B: Debug>(
+    call: &dyn Debug,
+    what: &str,
+    a: A,
+    b: B,
+) -> Result<(), Difference> {
+    if a == b {
+        return Ok(());
+    }
+    Err(Difference {
+        call: format!("{call:?}: {what}"),
+        hullathan: format!("{a:?}"),
+        rust: format!("{b:?}"),
+    })
+}
+
 /// How one layer of the library is compared with the Rust.
 pub trait Layer {
     /// An input to both sides: a number, or a list of calls.

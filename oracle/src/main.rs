@@ -74,91 +74,80 @@ fn compare(name: &str, words: &[String]) -> Result<bool, String> {
     Ok((entry.report)(seed, limit))
 }
 
+/// The commands that need manta's Rust.
 #[cfg(manta)]
-fn write(folder: &str, file: &str, bytes: &[u8]) -> Result<(), String> {
-    let path = std::path::Path::new(folder).join(file);
-    std::fs::write(&path, bytes).map_err(|e| format!("{}: {e}", path.display()))
-}
+mod beside_manta {
+    use super::{only, option};
+    use oracle::{bench, examples, journal, layers, replay};
+    use std::io::{stdin, stdout};
 
-/// Writes the files of a replaying program, from manta's Rust.
-#[cfg(manta)]
-fn replay(name: &str, folder: &str) -> Result<bool, String> {
-    let files = oracle::replay::files(name).ok_or_else(|| format!("nothing replays {name}"))?;
-    write(folder, "stdin", &files.stdin)?;
-    write(folder, "stdout", files.stdout.as_bytes())?;
-    Ok(true)
-}
-
-#[cfg(not(manta))]
-fn replay(_: &str, _: &str) -> Result<bool, String> {
-    println!("{NO_MANTA}");
-    Ok(false)
-}
-
-/// Long journals through the program and the Rust's.
-#[cfg(manta)]
-fn soak(words: &[String]) -> Result<bool, String> {
-    only(words, &["--seed", "--lines"])?;
-    let seed = option(words, "--seed")?.unwrap_or(1);
-    let lines = option(words, "--lines")?.unwrap_or(200_000_000);
-    Ok(oracle::layers::journal::soak::report(seed, lines))
-}
-
-#[cfg(not(manta))]
-fn soak(_: &[String]) -> Result<bool, String> {
-    println!("{NO_MANTA}");
-    Ok(false)
-}
-
-/// Writes the example journals and their answers.
-#[cfg(manta)]
-fn examples(folder: &str) -> Result<bool, String> {
-    for (file, bytes) in oracle::examples::files() {
-        write(folder, &file, &bytes)?;
+    fn write(folder: &str, file: &str, bytes: &[u8]) -> Result<(), String> {
+        let path = std::path::Path::new(folder).join(file);
+        std::fs::write(&path, bytes).map_err(|e| format!("{}: {e}", path.display()))
     }
-    Ok(true)
-}
 
-#[cfg(not(manta))]
-fn examples(_: &str) -> Result<bool, String> {
-    println!("{NO_MANTA}");
-    Ok(false)
-}
-
-/// Document 01's journal program over manta's Rust.
-#[cfg(manta)]
-fn journal() -> Result<bool, String> {
-    let (input, output) = (std::io::stdin().lock(), std::io::stdout().lock());
-    if let Err(e) = oracle::journal::run(input, output) {
-        eprintln!("oracle: {e}");
-        return Ok(false);
+    /// Writes the files of a replaying program.
+    fn replay(name: &str, folder: &str) -> Result<bool, String> {
+        let files = replay::files(name).ok_or_else(|| format!("nothing replays {name}"))?;
+        write(folder, "stdin", &files.stdin)?;
+        write(folder, "stdout", files.stdout.as_bytes())?;
+        Ok(true)
     }
-    Ok(true)
-}
 
-#[cfg(not(manta))]
-fn journal() -> Result<bool, String> {
-    eprintln!("{NO_MANTA}");
-    Ok(false)
-}
-
-/// Measures a layer beside manta's Rust.
-#[cfg(manta)]
-fn beside_manta(name: &str) -> Result<bool, String> {
-    match name {
-        "tracker" => bench::tracker(),
-        "bank" => bench::bank(),
-        "station" => bench::station(),
-        "journal" => return bench::journal::report(),
-        _ => return Err(format!("{name} is not measured")),
+    /// Writes the example journals and their answers.
+    fn examples(folder: &str) -> Result<bool, String> {
+        for (file, bytes) in examples::files() {
+            write(folder, &file, &bytes)?;
+        }
+        Ok(true)
     }
-    Ok(true)
+
+    /// Long journals through the program and the Rust's.
+    fn soak(words: &[String]) -> Result<bool, String> {
+        only(words, &["--seed", "--lines"])?;
+        let seed = option(words, "--seed")?.unwrap_or(1);
+        let lines = option(words, "--lines")?.unwrap_or(200_000_000);
+        Ok(layers::journal::soak::report(seed, lines))
+    }
+
+    /// Document 01's journal program.
+    fn journal() -> bool {
+        let done = journal::run(stdin().lock(), stdout().lock());
+        if let Err(e) = &done {
+            eprintln!("oracle: {e}");
+        }
+        done.is_ok()
+    }
+
+    fn bench(name: &str) -> Result<bool, String> {
+        match name {
+            "tracker" => bench::tracker(),
+            "bank" => bench::bank(),
+            "station" => bench::station(),
+            "journal" => return bench::journal::report(),
+            _ => return Err(format!("{name} is not measured")),
+        }
+        Ok(true)
+    }
+
+    pub fn command(first: &str, rest: &[String]) -> Result<bool, String> {
+        match (first, rest.split_first()) {
+            ("replay", Some((name, [folder]))) => replay(name, folder),
+            ("examples", Some((folder, []))) => examples(folder),
+            ("soak", Some((name, options))) if name == "journal" => soak(options),
+            ("journal", None) => Ok(journal()),
+            ("bench", Some((name, []))) => bench(name),
+            _ => Err("the command is not known".into()),
+        }
+    }
 }
 
 #[cfg(not(manta))]
-fn beside_manta(_: &str) -> Result<bool, String> {
-    println!("{NO_MANTA}");
-    Ok(false)
+mod beside_manta {
+    pub fn command(_: &str, _: &[String]) -> Result<bool, String> {
+        eprintln!("{}", super::NO_MANTA);
+        Ok(false)
+    }
 }
 
 /// Whether the command found nothing wrong.
@@ -172,7 +161,6 @@ fn command(words: &[String]) -> Result<bool, String> {
             Ok(true)
         }
         ("compare", Some((name, options))) => compare(name, options),
-        ("soak", Some((name, options))) if name == "journal" => soak(options),
         ("exhaustive", _) => {
             only(rest, &["--threads"])?;
             Ok(exhaustive::report(
@@ -183,14 +171,13 @@ fn command(words: &[String]) -> Result<bool, String> {
             bench::numbers();
             Ok(true)
         }
-        ("bench", Some((name, []))) => beside_manta(name),
-        ("replay", Some((name, [folder]))) => replay(name, folder),
-        ("examples", Some((folder, []))) => examples(folder),
         ("keyed", Some(_)) => {
             let journal = oracle::keyed::command(rest)?;
             Ok(std::io::stdout().write_all(&journal).is_ok())
         }
-        ("journal", None) => journal(),
+        ("replay" | "examples" | "soak" | "journal" | "bench", _) => {
+            beside_manta::command(first, rest)
+        }
         _ => Err("the command is not known".into()),
     }
 }
