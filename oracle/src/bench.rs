@@ -1,5 +1,8 @@
 //! How long a call takes, beside Rust's own, on the same inputs.
 
+#[cfg(manta)]
+pub mod journal;
+
 use crate::hullathan::numbers as ours;
 use crate::log01;
 use crate::random::Random;
@@ -287,7 +290,7 @@ fn many_senders() -> Vec<f32> {
     let mut random = Random::new(8);
     let mut unit = 60.0;
     let mark = |i: usize| {
-        if i % 5 == 0 {
+        if i.is_multiple_of(5) {
             unit = random.scale(22.0, 450.0) as f32;
         }
         unit * (0.97 + 0.06 * random.fraction() as f32)

@@ -15,6 +15,23 @@ pub struct Difference {
     pub rust: String,
 }
 
+/// Both sides say the same of one thing, at a call.
+pub fn agree<A: PartialEq<B> + Debug, B: Debug>(
+    call: &dyn Debug,
+    what: &str,
+    a: A,
+    b: B,
+) -> Result<(), Difference> {
+    if a == b {
+        return Ok(());
+    }
+    Err(Difference {
+        call: format!("{call:?}: {what}"),
+        hullathan: format!("{a:?}"),
+        rust: format!("{b:?}"),
+    })
+}
+
 /// How one layer of the library is compared with the Rust.
 pub trait Layer {
     /// An input to both sides: a number, or a list of calls.
@@ -34,6 +51,11 @@ pub trait Layer {
 
     /// Smaller cases to try in place of one that shows a difference (`shrink` has what makes them).
     fn smaller(case: &Self::Case) -> Vec<Self::Case>;
+
+    /// The smallest case that still shows a difference, from one that does.
+    fn least(case: Self::Case) -> Self::Case {
+        shrink(case, Self::smaller, |c| Self::run(c).is_err())
+    }
 
     /// The branches that its runs count: a long run has to reach each.
     fn reached() -> &'static [&'static Branch] {
@@ -81,8 +103,9 @@ pub enum Origin {
     Seed(u64),
 }
 
-fn found<L: Layer>(origin: Origin, case: L::Case, difference: Difference) -> Found<L::Case> {
-    let least = shrink(case.clone(), L::smaller, |c| L::run(c).is_err());
+/// What is said of a case that differs.
+pub fn found<L: Layer>(origin: Origin, case: L::Case, difference: Difference) -> Found<L::Case> {
+    let least = L::least(case.clone());
     let least_difference = L::run(&least).expect_err("a case that fails stays one that fails");
     Found {
         origin,
@@ -140,6 +163,12 @@ fn print_difference<C: Debug>(title: &str, case: &C, d: &Difference) {
     println!("    rust       {}", d.rust);
 }
 
+/// Prints a case that differs, and the smallest one that does.
+pub fn print_found<C: Debug>(f: &Found<C>) {
+    print_difference("case", &f.case, &f.difference);
+    print_difference("smallest", &f.least, &f.least_difference);
+}
+
 /// Runs a layer and prints what was seen. Whether nothing differed.
 pub fn report<L: Layer>(seed: u64, limit: Limit) -> bool {
     let start = Instant::now();
@@ -157,8 +186,7 @@ pub fn report<L: Layer>(seed: u64, limit: Limit) -> bool {
                 L::NAME
             ),
         }
-        print_difference("case", &f.case, &f.difference);
-        print_difference("smallest", &f.least, &f.least_difference);
+        print_found(f);
     }
     let seeds = match o.seeds {
         0 => "no seed".to_string(),

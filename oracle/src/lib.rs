@@ -2,8 +2,13 @@
 
 pub mod bench;
 pub mod compare;
+#[cfg(manta)]
+pub mod examples;
 pub mod exhaustive;
 pub mod hullathan;
+#[cfg(manta)]
+pub mod journal;
+pub mod keyed;
 pub mod keying;
 pub mod layers;
 pub mod log01;

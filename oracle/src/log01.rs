@@ -18,39 +18,27 @@ fn parts(v: f32) -> (u64, i64) {
     (significand << zeros, last + 31 - i64::from(zeros))
 }
 
-/// 24 binary digits of the logarithm of `y / 2^31` to the base 2.
+/// 24 binary digits of the logarithm of `y / 2^31` to the base 2. No branch: no one foretells these digits.
 fn digits(mut y: u64) -> i64 {
     let mut t = 0;
     for _ in 0..24 {
         let s = y * y / (1 << 31);
-        if s >= 1 << 32 {
-            t = 2 * t + 1;
-            y = s / 2;
-        } else {
-            t *= 2;
-            y = s;
-        }
+        // 1 if s is at least 2^32; it is below 2^33
+        let bit = s >> 32;
+        t = 2 * t + bit;
+        y = s >> bit;
     }
-    t
+    t as i64
 }
 
-/// `n / 2^56` as the nearest f32, ties to even. Every n above zero gives a normal f32 here.
+/// `n / 2^56` as the nearest f32, ties to even: `as` rounds n so, and the quotient is exact, as it lies far above the subnormals.
 fn nearest(negative: bool, n: u64) -> f32 {
-    if n == 0 {
-        return 0.0;
+    let positive = n as f32 / (1u64 << 56) as f32;
+    if negative {
+        -positive
+    } else {
+        positive
     }
-    let n = u128::from(n) << 24;
-    let size = 128 - n.leading_zeros();
-    let dropped = size - 24;
-    let unit = 1u128 << dropped;
-    let (mut q, rest) = (n >> dropped, n & (unit - 1));
-    if rest * 2 > unit || (rest * 2 == unit && q % 2 == 1) {
-        q += 1;
-    }
-    // n / 2^80 is q * 2^(dropped - 80), and q, from 2^23 to 2^24, has its leading one at place 23 or carries into the exponent
-    let field = dropped + 23 + 127 - 80;
-    let bits = (field << 23) + (q as u32 - 0x80_0000);
-    f32::from_bits(bits | u32::from(negative) << 31)
 }
 
 /// The logarithm, or the refusal's number.

@@ -3,6 +3,7 @@
 use oracle::compare::Limit;
 use oracle::layers::{Entry, LAYERS};
 use oracle::{bench, exhaustive};
+use std::io::Write;
 use std::process::ExitCode;
 use std::time::Duration;
 
@@ -10,12 +11,19 @@ const USAGE: &str = "\
 oracle layers                      the layers that can be compared, and how many seconds the gate gives each
 oracle compare LAYER [--seed S] [--seconds T | --count N]
                                    the same cases to both sides, up to the first difference (10 seconds from seed 1)
+oracle soak journal [--seed S] [--lines N]
+                                   long journals through the journal program and the Rust's (200,000,000 lines from seed 1)
 oracle exhaustive [--threads N]    the f32 root and the logarithm over all 2^32 patterns (2 threads; minutes)
 oracle bench numbers               nanoseconds for each call, beside Rust's own
 oracle bench tracker               nanoseconds for one mark, beside manta's
 oracle bench bank                  the same of a bank
 oracle bench station               nanoseconds for one mark, one gap and one switch call of a station
-oracle replay LAYER DIR            the list of calls for `sender_replay` or `tracker_replay`: DIR/stdin, and DIR/stdout, what it must print
+oracle bench journal               lines a second, start and memory of the journal program, beside the Rust's
+oracle replay LAYER DIR            the fixed list of a layer's program: DIR/stdin, and DIR/stdout, what it must print
+oracle keyed [--width W] [--switching 0|1] [--seed S] {[--wpm N] [--ratio R] [--jitter PERCENT] TEXT | --line LINE}..
+                                   the journal of keyed text, each option from its place on; a line has blanks for tabs
+oracle examples DIR                the example journals and the Rust's answers: DIR/NAME.journal and DIR/NAME.out
+oracle journal                     document 01's journal program over manta's Rust: standard input to standard output
 ";
 
 /// What a command that needs manta's Rust says without it.
@@ -66,21 +74,80 @@ fn compare(name: &str, words: &[String]) -> Result<bool, String> {
     Ok((entry.report)(seed, limit))
 }
 
-/// Writes the files of a replaying program, from manta's Rust.
+/// The commands that need manta's Rust.
 #[cfg(manta)]
-fn replay(name: &str, folder: &str) -> Result<bool, String> {
-    let files = oracle::replay::files(name).ok_or_else(|| format!("nothing replays {name}"))?;
-    for (file, text) in [("stdin", files.stdin), ("stdout", files.stdout)] {
+mod beside_manta {
+    use super::{only, option};
+    use oracle::{bench, examples, journal, layers, replay};
+    use std::io::{stdin, stdout};
+
+    fn write(folder: &str, file: &str, bytes: &[u8]) -> Result<(), String> {
         let path = std::path::Path::new(folder).join(file);
-        std::fs::write(&path, text).map_err(|e| format!("{}: {e}", path.display()))?;
+        std::fs::write(&path, bytes).map_err(|e| format!("{}: {e}", path.display()))
     }
-    Ok(true)
+
+    /// Writes the files of a replaying program.
+    fn replay(name: &str, folder: &str) -> Result<bool, String> {
+        let files = replay::files(name).ok_or_else(|| format!("nothing replays {name}"))?;
+        write(folder, "stdin", &files.stdin)?;
+        write(folder, "stdout", files.stdout.as_bytes())?;
+        Ok(true)
+    }
+
+    /// Writes the example journals and their answers.
+    fn examples(folder: &str) -> Result<bool, String> {
+        for (file, bytes) in examples::files() {
+            write(folder, &file, &bytes)?;
+        }
+        Ok(true)
+    }
+
+    /// Long journals through the program and the Rust's.
+    fn soak(words: &[String]) -> Result<bool, String> {
+        only(words, &["--seed", "--lines"])?;
+        let seed = option(words, "--seed")?.unwrap_or(1);
+        let lines = option(words, "--lines")?.unwrap_or(200_000_000);
+        Ok(layers::journal::soak::report(seed, lines))
+    }
+
+    /// Document 01's journal program.
+    fn journal() -> bool {
+        let done = journal::run(stdin().lock(), stdout().lock());
+        if let Err(e) = &done {
+            eprintln!("oracle: {e}");
+        }
+        done.is_ok()
+    }
+
+    fn bench(name: &str) -> Result<bool, String> {
+        match name {
+            "tracker" => bench::tracker(),
+            "bank" => bench::bank(),
+            "station" => bench::station(),
+            "journal" => return bench::journal::report(),
+            _ => return Err(format!("{name} is not measured")),
+        }
+        Ok(true)
+    }
+
+    pub fn command(first: &str, rest: &[String]) -> Result<bool, String> {
+        match (first, rest.split_first()) {
+            ("replay", Some((name, [folder]))) => replay(name, folder),
+            ("examples", Some((folder, []))) => examples(folder),
+            ("soak", Some((name, options))) if name == "journal" => soak(options),
+            ("journal", None) => Ok(journal()),
+            ("bench", Some((name, []))) => bench(name),
+            _ => Err("the command is not known".into()),
+        }
+    }
 }
 
 #[cfg(not(manta))]
-fn replay(_: &str, _: &str) -> Result<bool, String> {
-    println!("{NO_MANTA}");
-    Ok(false)
+mod beside_manta {
+    pub fn command(_: &str, _: &[String]) -> Result<bool, String> {
+        eprintln!("{}", super::NO_MANTA);
+        Ok(false)
+    }
 }
 
 /// Whether the command found nothing wrong.
@@ -104,21 +171,13 @@ fn command(words: &[String]) -> Result<bool, String> {
             bench::numbers();
             Ok(true)
         }
-        #[cfg(manta)]
-        ("bench", Some((name, []))) if ["tracker", "bank", "station"].contains(&name.as_str()) => {
-            match name.as_str() {
-                "tracker" => bench::tracker(),
-                "bank" => bench::bank(),
-                _ => bench::station(),
-            }
-            Ok(true)
+        ("keyed", Some(_)) => {
+            let journal = oracle::keyed::command(rest)?;
+            Ok(std::io::stdout().write_all(&journal).is_ok())
         }
-        #[cfg(not(manta))]
-        ("bench", Some((name, []))) if ["tracker", "bank", "station"].contains(&name.as_str()) => {
-            println!("{NO_MANTA}");
-            Ok(false)
+        ("replay" | "examples" | "soak" | "journal" | "bench", _) => {
+            beside_manta::command(first, rest)
         }
-        ("replay", Some((name, [folder]))) => replay(name, folder),
         _ => Err("the command is not known".into()),
     }
 }

@@ -43,7 +43,7 @@ pub fn dit(dit_ms: f32) -> Result<(), u8> {
 
 /// 1, of one observed class: a mean outside 0.0001 to 13,108, or a variance negative or not finite.
 pub fn class(mean: f32, var: f32) -> Result<(), u8> {
-    if within(0.0001, 13_108.0, mean) && var.is_finite() && !(var < 0.0) {
+    if within(0.0001, 13_108.0, mean) && var.is_finite() && var >= 0.0 {
         Ok(())
     } else {
         Err(1)

@@ -4,6 +4,8 @@ use crate::compare::{report, Limit};
 
 #[cfg(manta)]
 pub mod bank;
+#[cfg(manta)]
+pub mod journal;
 pub mod numbers;
 #[cfg(manta)]
 pub mod sender;
@@ -25,25 +27,15 @@ pub struct Entry {
     pub report: Report,
 }
 
-/// The layers beside manta's Rust; without it nothing is run.
-#[cfg(manta)]
-mod beside_manta {
-    use super::{bank, report, sender, station, tracker, Report};
-
-    pub const BANK: Report = report::<bank::Banks>;
-    pub const SENDER: Report = report::<sender::Sender>;
-    pub const STATION: Report = report::<station::Stations>;
-    pub const TRACKER: Report = report::<tracker::Tracker>;
-}
-
-#[cfg(not(manta))]
-mod beside_manta {
-    use super::Report;
-
-    pub const BANK: Report = |_, _| false;
-    pub const SENDER: Report = |_, _| false;
-    pub const STATION: Report = |_, _| false;
-    pub const TRACKER: Report = |_, _| false;
+/// A layer beside manta's Rust; without it nothing is run.
+macro_rules! beside_manta {
+    ($report:expr) => {{
+        #[cfg(manta)]
+        let report: Report = $report;
+        #[cfg(not(manta))]
+        let report: Report = |_, _| false;
+        report
+    }};
 }
 
 pub const LAYERS: &[Entry] = &[
@@ -57,24 +49,30 @@ pub const LAYERS: &[Entry] = &[
         name: "sender",
         gate: 10,
         needs_manta: true,
-        report: beside_manta::SENDER,
+        report: beside_manta!(report::<sender::Sender>),
     },
     Entry {
         name: "tracker",
         gate: 45,
         needs_manta: true,
-        report: beside_manta::TRACKER,
+        report: beside_manta!(report::<tracker::Tracker>),
     },
     Entry {
         name: "bank",
         gate: 60,
         needs_manta: true,
-        report: beside_manta::BANK,
+        report: beside_manta!(report::<bank::Banks>),
     },
     Entry {
         name: "station",
         gate: 60,
         needs_manta: true,
-        report: beside_manta::STATION,
+        report: beside_manta!(report::<station::Stations>),
+    },
+    Entry {
+        name: "journal",
+        gate: 45,
+        needs_manta: true,
+        report: beside_manta!(journal::report),
     },
 ];

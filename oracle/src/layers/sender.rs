@@ -3,8 +3,9 @@
 use crate::compare::{Difference, Layer};
 use crate::hullathan::sender as ours;
 use crate::hullathan::sender::{ClassStats, SenderTiming as Plain};
+use crate::layers::tracker::cases::about;
+use crate::layers::tracker::{same_float, show};
 use crate::manta::timing::{ClassEstimate, SenderTiming, TimingClass};
-use crate::patterns::near32;
 use crate::random::Random;
 use crate::refusals;
 use crate::shrink::{simpler_count, simpler_f32, smaller_list};
@@ -98,10 +99,6 @@ pub enum Call {
     Fresh,
 }
 
-fn show(bits: u32) -> String {
-    format!("{bits:08X} ({:e})", f32::from_bits(bits))
-}
-
 impl fmt::Debug for Call {
     fn fmt(&self, f: &mut fmt::Formatter<'_>) -> fmt::Result {
         match *self {
@@ -144,10 +141,6 @@ pub enum Told {
     Number(Option<f32>),
     Flag(bool),
     Report(f32, Plain),
-}
-
-fn same_float(a: f32, b: f32) -> bool {
-    a.to_bits() == b.to_bits()
 }
 
 /// Where nothing was observed, the other numbers are no part of a class.
@@ -495,17 +488,6 @@ fn count(t: &SenderTiming, call: Call) {
 const NAN: u32 = 0x7FC0_0000;
 const INFINITY: u32 = 0x7F80_0000;
 const MINUS: u32 = 1 << 31;
-
-/// A number near one of the limits, mostly next to it.
-fn about(random: &mut Random, limits: &[f32]) -> u32 {
-    let limit = random.pick(limits).to_bits();
-    match random.below(4) {
-        0 => limit,
-        1 => limit.wrapping_add(1),
-        2 => limit.wrapping_sub(1),
-        _ => near32(limit, random),
-    }
-}
 
 fn odd(random: &mut Random) -> u32 {
     random.pick(&[

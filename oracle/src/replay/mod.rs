@@ -1,6 +1,7 @@
 //! Fixed lists of calls for the programs that replay them, and what they must print: by manta's Rust and the refusals of document 01.
 
 pub mod bank;
+pub mod journal;
 pub mod sender;
 pub mod station;
 pub mod tracker;
@@ -12,7 +13,7 @@ use std::collections::BTreeSet;
 
 /// What a program reads, and what it must print.
 pub struct Files {
-    pub stdin: String,
+    pub stdin: Vec<u8>,
     pub stdout: String,
 }
 
@@ -23,6 +24,7 @@ pub fn files(layer: &str) -> Option<Files> {
         "tracker" => Some(tracker::files()),
         "bank" => Some(bank::files()),
         "station" => Some(station::files()),
+        "journal" => Some(journal::files()),
         _ => None,
     }
 }

@@ -56,7 +56,7 @@ pub fn files() -> Files {
     let mut rust = Rust(SenderTiming::new());
     let calls = script();
     Files {
-        stdin: calls.iter().map(|&c| line(c)).collect(),
+        stdin: calls.iter().map(|&c| line(c)).collect::<String>().into(),
         stdout: calls.iter().map(|&c| answer(&mut rust, c)).collect(),
     }
 }
@@ -248,7 +248,7 @@ mod tests {
     #[test]
     fn files_are_as_written() {
         let f = files();
-        assert!(f.stdin == include_str!("../../../crates/sender_replay/stdin"));
+        assert!(f.stdin == include_bytes!("../../../crates/sender_replay/stdin"));
         assert!(f.stdout == include_str!("../../../crates/sender_replay/stdout"));
     }
 

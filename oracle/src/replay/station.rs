@@ -151,7 +151,7 @@ pub fn files() -> Files {
     let anew = [Call::Fresh(1, false)];
     let calls = super::choose::<Watches, Call>(by_hand(), watched_case, &anew, 260);
     Files {
-        stdin: text(&calls),
+        stdin: text(&calls).into(),
         stdout: answers(&calls),
     }
 }

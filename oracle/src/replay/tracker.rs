@@ -125,7 +125,7 @@ pub fn script() -> Vec<Call> {
 pub fn files() -> Files {
     let calls = choose();
     Files {
-        stdin: calls.iter().map(lines).collect(),
+        stdin: calls.iter().map(lines).collect::<String>().into(),
         stdout: answers(&calls),
     }
 }

@@ -6,7 +6,7 @@ pub(crate) mod follow;
 mod parts;
 pub(crate) mod state;
 
-use crate::compare::{Difference, Layer};
+use crate::compare::{agree, Difference, Layer};
 use crate::hullathan::bank as ours;
 use crate::hullathan::bank::{Bank, Departure, Hypothesis, Record};
 use crate::hullathan::tracker::SpeedTracker as Plain;
@@ -443,18 +443,6 @@ fn sorted(left: &[Departure]) -> Vec<Departure> {
 /// The challengers of a bank.
 fn held(b: &Bank) -> &[Hypothesis] {
     &b.challengers[..b.challengers_len.min(8)]
-}
-
-/// Both sides say the same of one thing.
-fn agree<T: PartialEq + fmt::Debug>(call: &Call, what: &str, a: T, b: T) -> Result<(), Difference> {
-    if a == b {
-        return Ok(());
-    }
-    Err(Difference {
-        call: format!("{call:?}: {what}"),
-        hullathan: format!("{a:?}"),
-        rust: format!("{b:?}"),
-    })
 }
 
 pub struct Banks;

@@ -126,7 +126,7 @@ pub fn set(b: &mut Bank, part: Part, i: u8, v: u32) {
         Part::LogApplied => b.log[i % 16].applied = on,
         Part::LogLen => b.log_len = n,
         Part::Started => b.started = b.started >> 32 << 32 | u64::from(v),
-        Part::StartedHigh => b.started = b.started % (1 << 32) | u64::from(v) << 32,
+        Part::StartedHigh => b.started = (b.started % (1 << 32)) | (u64::from(v) << 32),
         _ => set_hypothesis(&mut b.challengers[i % 8], part, v),
     }
 }

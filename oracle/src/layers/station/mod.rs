@@ -5,7 +5,7 @@ mod cases;
 mod count;
 pub(crate) mod drive;
 
-use crate::compare::{Difference, Layer};
+use crate::compare::{agree, Difference, Layer};
 use crate::hullathan::bank::{Bank, Departure};
 use crate::hullathan::station as ours;
 use crate::hullathan::station::Station;
@@ -283,23 +283,6 @@ impl Default for Both {
     fn default() -> Both {
         Both::new()
     }
-}
-
-/// Both sides say the same of one thing.
-fn agree<A: PartialEq<B> + fmt::Debug, B: fmt::Debug>(
-    call: &Call,
-    what: &str,
-    a: A,
-    b: B,
-) -> Result<(), Difference> {
-    if a == b {
-        return Ok(());
-    }
-    Err(Difference {
-        call: format!("{call:?}: {what}"),
-        hullathan: format!("{a:?}"),
-        rust: format!("{b:?}"),
-    })
 }
 
 pub struct Stations;

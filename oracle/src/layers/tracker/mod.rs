@@ -3,7 +3,7 @@
 pub(crate) mod cases;
 mod count;
 
-use crate::compare::{Difference, Layer};
+use crate::compare::{agree, Difference, Layer};
 use crate::hullathan::tracker as ours;
 use crate::hullathan::tracker::{RingEntry, SpeedTracker as Plain};
 use crate::manta::timing::SpeedTracker;
@@ -495,13 +495,7 @@ impl Both {
         let before = self.ours;
         let (ours, next) = library(before, call);
         let theirs = self.rust.call(&before, call);
-        if ours != theirs {
-            return Err(Difference {
-                call: format!("{call:?}"),
-                hullathan: format!("{ours:?}"),
-                rust: format!("{theirs:?}"),
-            });
-        }
+        agree(call, "the answer", &ours, &theirs)?;
         if ours.code != 0 && !identical(&before, &next) {
             return Err(Difference {
                 call: format!("{call:?}, refused: the tracker is to be handed back as it was"),
