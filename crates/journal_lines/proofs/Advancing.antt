@@ -1,6 +1,6 @@
 -- A piece of the input, line by line: what the parts of the code add up to. Assumes nothing.
 use mathlib.Core.Path.{_≡_, refl, ap, sym, _∙_, subst}
-use mathlib.Core.Bool.{Bool, true, false}
+use mathlib.Core.Bool.{Bool, true, false, true≢false}
 use mathlib.Core.List.{List, [], _∷_, _++_, append-assoc}
 use Prim.Native.Nat.{ℕ, zero, suc, _+_, _-_, _≤_, _<_}
 use native.Mathlib.Omega.{arith}
@@ -13,11 +13,11 @@ use Rattle.line_out.specs.Shown.{line}
 use Rattle.journal_lines.specs.declared.Fed.{Fed}
 use Rattle.journal_lines.specs.declared.Gathered.{Gathered}
 use Rattle.journal_lines.specs.declared.Journal.{Journal}
-use Rattle.journal_lines.specs.declared.Written.{Written}
+use Rattle.station.specs.declared.Station.{Station}
 use Rattle.journal_lines.specs.Journal.{answer}
 use Rattle.journal_lines.specs.Pieces.{feed, within}
 use Rattle.journal_lines.specs.Pieces as Pieces
-use Rattle.journal_lines.specs.Parts.{Advances, Feeds, Gathers, Goes, Writes, hasNewline, keeps, reading, upToNewline, viewed}
+use Rattle.journal_lines.specs.Parts.{Advances, Feeds, Gathers, Goes, Writes, hasNewline, keeps, keepsAt, newlineAt, reading, takenAt, upToNewline, viewed}
 use Rattle.journal_lines.proofs.Joining.{feed-append}
 use Rattle.journal_lines.proofs.Feeding.{feed-spent, feed-part, feed-line, taken-few, taken-some, taken-part, within-spent, within-part, within-line, keeping}
 
@@ -41,64 +41,69 @@ ends-there : (j : Pieces.Journal) (room : ℕ) (piece : List ℕ) (n : ℕ) → 
 unfolding within
 ends-there j room piece n e = rw (drop-of-length-le piece {i = n} (omega arith)) (omega arith)
 
-module _ (j : Journal) (piece was : List ℕ) where
-  -- no line may be read any more
-  pub advance-spent : j .left ≡ 0 → Goes j → Advances j piece was was (record { journal = j; used = length piece; put = 0 })
-  advance-spent z g = record {
-    feeds = feeds-as j piece was was _ (record { journal = viewed j; put = [] }) (ap (feed standard (viewed j)) (take-all (length piece) piece (omega arith)) ∙ feed-spent standard (viewed j) z piece)
-        (omega arith) refl refl refl g;
-    moves = λ h. h;
+module _ (j : Journal) (piece was : List ℕ) (g : Gathered) (k : Gathers (j .left) (take (j .«held_len») (j .held)) piece g) where
+  -- ---- no newline came, or no line may be read any more
+
+  abbrev waits : Fed
+  waits = record { journal = record { begun = j .begun; station = j .station; held = g .held; «held_len» = g .«held_len»; left = j .left }; used = g .took; put = 0 }
+
+  waiting : Goes j → g .took ≡ length piece → feed standard (viewed j) piece ≡ record { journal = keeping (viewed j) (take (g .«held_len») (g .held)); put = [] }
+      → ((room : ℕ) → 80 ≤ room → within standard room (viewed j) piece ≡ length piece) → Advances j piece was was waits
+  waiting c all f w = record {
+    feeds = feeds-as j piece was was waits (record { journal = keeping (viewed j) (take (g .«held_len») (g .held)); put = [] })
+        (ap (feed standard (viewed j)) (ap (λ (m : ℕ). take m piece) all ∙ take-all (length piece) piece (omega arith)) ∙ f)
+        (omega arith) refl refl refl (record { lives = c .lives; long = k .long; few = k .few });
+    moves = λ h. (let u = all in omega arith);
     room = omega arith;
-    onward = λ room h. within-spent standard (viewed j) z room h piece ∙ ends-there (viewed j) (room - 0) piece (length piece) refl;
+    onward = λ room h. w room h ∙ ends-there _ (room - 0) piece (g .took) all;
   }
 
-  module _ (n : ℕ) (e : j .left ≡ suc n) (g : Gathered) (k : Gathers (take (j .«held_len») (j .held)) piece g) where
-    -- the line is not ended
-    pub advance-part : g .ended ≡ false → Goes j → Advances j piece was was (record { journal = record { begun = j .begun; station = j .station; held = g .held; «held_len» = g .«held_len»; left = j .left }; used = g .took; put = 0 })
-    advance-part q c =
-        let none : hasNewline piece ≡ false = sym (k .ended) ∙ q in
-        let all : g .took ≡ length piece = k .took ∙ taken-part piece none in
+  pub advance-part : g .ended ≡ false → Goes j → Advances j piece was was waits
+  advance-part q c = go (j .left) refl (k .held) (k .took) (k .ended)
+    where
+      go : (n : ℕ) → j .left ≡ n → take (g .«held_len») (g .held) ≡ keepsAt n (viewed j .held) piece → g .took ≡ takenAt n piece → g .ended ≡ newlineAt n piece → Advances j piece was was waits
+      go zero z a b d = waiting c b (feed-spent standard (viewed j) z piece ∙ ap (λ (h : List ℕ). record { journal = keeping (viewed j) h; put = [] }) (sym a)) (λ room h. within-spent standard (viewed j) z room h piece)
+      go (suc n) z a b d =
+          let none : hasNewline piece ≡ false = sym d ∙ q in
+          waiting c (b ∙ taken-part piece none)
+          (feed-part standard (viewed j) n z piece none ∙ ap (λ (h : List ℕ). record { journal = keeping (viewed j) h; put = [] }) (sym a))
+          (λ room h. within-part standard (viewed j) n z room h piece none)
+
+  -- ---- a newline came, and the line is answered
+
+  module _ (is : List ℕ) (begun : Bool) (s : Station) (put : ℕ) (v : Writes begun s put was is (answer standard (reading (j .begun) (j .station)) (entry (take (g .«held_len») (g .held))))) where
+    abbrev fed : Fed
+    fed = record { journal = record { begun = begun; station = s; held = g .held; «held_len» = 0; left = j .left - 1 }; used = g .took; put = put }
+
+    abbrev answered : ℕ → Pieces.Fed
+    answered n =
+        let t = answer standard (reading (j .begun) (j .station)) (entry (take (g .«held_len») (g .held))) in
+        record { journal = record { station = t .station; held = []; left = n }; put = line (t .shown) }
+
+    abbrev goes-on : ℕ → ℕ → ℕ → Pieces.Journal → ℕ
+    goes-on room used put now = used + within standard (room - put) now (drop used piece)
+
+    newline : (n : ℕ) → j .left ≡ suc n → take (g .«held_len») (g .held) ≡ keeps (viewed j .held) piece → g .took ≡ upToNewline piece → hasNewline piece ≡ true → Advances j piece was is fed
+    newline n e a b there =
+        let is-answered : Pieces.ended standard (keeping (viewed j) (keeps (viewed j .held) piece)) n ≡ answered n = ap (λ (h : List ℕ). Pieces.ended standard (keeping (viewed j) h) n) (sym a) in
+        let is-viewed : viewed (fed .journal) ≡ answered n .journal = (let d : j .left - 1 ≡ n = omega arith in rw (v .station, d)) in
+        let few = taken-few piece in
         record {
-          feeds = feeds-as j piece was was _ (record { journal = keeping (viewed j) (keeps (viewed j .held) piece); put = [] })
-              (ap (feed standard (viewed j)) (ap (λ (m : ℕ). take m piece) all ∙ take-all (length piece) piece (omega arith)) ∙ feed-part standard (viewed j) n e piece none)
-              (omega arith) (ap (keeping (viewed j)) (k .held)) refl refl (record { lives = c .lives; long = k .long; few = k .few });
-          moves = λ h. (let t = taken-some piece h in let u = k .took in omega arith);
-          room = omega arith;
-          onward = λ room h. within-part standard (viewed j) n e room h piece none ∙ ends-there _ (room - 0) piece (g .took) all;
+          feeds = feeds-as j piece was is fed (answered n) (ap (λ (m : ℕ). feed standard (viewed j) (take m piece)) b ∙ feed-line standard (viewed j) n e piece there ∙ is-answered)
+              (omega arith) is-viewed (v .long) (v .out ∙ ap (λ (m : ℕ). answered n .put ++ drop m was) (sym (v .long))) (record { lives = v .lives; long = k .long; few = omega arith });
+          moves = λ h. (let t = taken-some piece h in omega arith);
+          room = v .room;
+          onward = λ room h.
+              within-line standard (viewed j) n e room h piece there
+              ∙ ap (λ (f : Pieces.Fed). goes-on room (upToNewline piece) (length (f .put)) (f .journal)) is-answered
+              ∙ ap (λ (m : ℕ). goes-on room m (length (answered n .put)) (answered n .journal)) (sym b)
+              ∙ ap (λ (m : ℕ). goes-on room (g .took) m (answered n .journal)) (sym (v .long))
+              ∙ ap (goes-on room (g .took) put) (sym is-viewed);
         }
 
-    -- it is, and is answered
-    module _ (q : g .ended ≡ true) (is : List ℕ) (w : Written) (v : Writes w was is (answer standard (reading (j .begun) (j .station)) (entry (take (g .«held_len») (g .held))))) where
-      abbrev fed : Fed
-      fed = record { journal = record { begun = w .begun; station = w .station; held = g .held; «held_len» = 0; left = j .left - 1 }; used = g .took; put = w .put }
-
-      abbrev answered : Pieces.Fed
-      answered =
-          let t = answer standard (reading (j .begun) (j .station)) (entry (take (g .«held_len») (g .held))) in
-          record { journal = record { station = t .station; held = []; left = n }; put = line (t .shown) }
-
-      is-answered : Pieces.ended standard (keeping (viewed j) (keeps (viewed j .held) piece)) n ≡ answered
-      is-answered = ap (λ (h : List ℕ). Pieces.ended standard (keeping (viewed j) h) n) (sym (k .held))
-
-      there : hasNewline piece ≡ true
-      there = sym (k .ended) ∙ q
-
-      is-viewed : viewed (fed .journal) ≡ answered .journal
-      is-viewed = let d : j .left - 1 ≡ n = omega arith in rw (v .station, d)
-
-      abbrev goes-on : ℕ → ℕ → ℕ → Pieces.Journal → ℕ
-      goes-on room used put now = used + within standard (room - put) now (drop used piece)
-
-      pub advance-line : Advances j piece was is fed
-      advance-line = record {
-        feeds = feeds-as j piece was is fed answered (ap (λ (m : ℕ). feed standard (viewed j) (take m piece)) (k .took) ∙ feed-line standard (viewed j) n e piece there ∙ is-answered)
-            (let h = taken-few piece in let u = k .took in omega arith) is-viewed (v .put) (v .out ∙ ap (λ (m : ℕ). answered .put ++ drop m was) (sym (v .put))) (record { lives = v .lives; long = k .long; few = omega arith });
-        moves = λ h. (let t = taken-some piece h in let u = k .took in omega arith);
-        room = v .room;
-        onward = λ room h.
-            within-line standard (viewed j) n e room h piece there
-            ∙ ap (λ (f : Pieces.Fed). goes-on room (upToNewline piece) (length (f .put)) (f .journal)) is-answered
-            ∙ ap (λ (m : ℕ). goes-on room m (length (answered .put)) (answered .journal)) (sym (k .took))
-            ∙ ap (λ (m : ℕ). goes-on room (g .took) m (answered .journal)) (sym (v .put))
-            ∙ ap (goes-on room (g .took) (w .put)) (sym is-viewed);
-      }
+    pub advance-line : g .ended ≡ true → Advances j piece was is fed
+    advance-line q = go (j .left) refl (k .held) (k .took) (k .ended)
+      where
+        go : (n : ℕ) → j .left ≡ n → take (g .«held_len») (g .held) ≡ keepsAt n (viewed j .held) piece → g .took ≡ takenAt n piece → g .ended ≡ newlineAt n piece → Advances j piece was is fed
+        go zero e a b d = absurd (true≢false (sym q ∙ d))
+        go (suc n) e a b d = newline n e a b (sym d ∙ q)

@@ -29,12 +29,13 @@ use Rattle.station.specs.View.{view, outcome}
 use Rattle.station.specs.Parts.{Next, Steady}
 use Rattle.station.proofs.Sounding.{held}
 use Rattle.line_in.specs.declared.Entry.{Entry}
+use Rattle.line_in.specs.declared.Entry.the-variants.{Watch, Call, Bad}
 use Rattle.line_in.specs.Form.{entry}
 use Rattle.line_out.specs.declared.Shown.{Shown}
 use Rattle.line_out.specs.Shown.{line}
 use Rattle.line_out.specs.Written.{over}
 use Rattle.journal_lines.specs.Journal.{Turn, answer, called, letter, opened, shown, turn}
-use Rattle.journal_lines.specs.Parts.{Answered, Writes, reading}
+use Rattle.journal_lines.specs.Parts.{Answered, Lives, Writes, calls, reading}
 use Rattle.journal_lines.specs.declared.Turned.{Turned}
 
 -- ---- the centroids of a steady station are numbers
@@ -103,18 +104,40 @@ answered-event s e o v k q = subst (λ (m : Model.Outcome). Answered (record { b
 
 -- ---- a line's answer, written
 
-written-as : (t : Turned) (m : Turn) (put : ℕ) (was is : List ℕ) → Answered t m → (put ≡ length (line (t .shown))) × (is ≡ over (line (t .shown)) was) → length is ≡ length was
-    → Writes (record { begun = t .begun; station = t .station; put = put }) was is m
-written-as t m put was is k w e =
-    let l = line (t .shown) in
-    record {
-      station = k .station;
-      lives = k .lives;
-      put = w .0 ∙ ap (λ (v : Shown). length (line v)) (k .shown);
-      room = (let x = w .0 in let y = ap length (w .1) in let z = length-append l (drop (length l) was) in let d = length-drop (length l) was in omega arith);
-      out = w .1 ∙ ap (λ (v : Shown). over (line v) was) (k .shown);
-    }
+pub shown-written : (begun : Bool) (s : Station) (m : Turn) (v : Shown) (put : ℕ) (was is : List ℕ) → reading begun s ≡ m .station → Lives begun s → v ≡ m .shown
+    → (put ≡ length (line v)) × (is ≡ over (line v) was) → length is ≡ length was → Writes begun s put was is m
+shown-written begun s m v put was is a b c w e = record {
+  station = a;
+  lives = b;
+  long = w .0 ∙ ap (λ (x : Shown). length (line x)) c;
+  room = (let x = w .0 in let y = ap length (w .1) in let z = length-append (line v) (drop (length (line v)) was) in let d = length-drop (length (line v)) was in omega arith);
+  out = w .1 ∙ ap (λ (x : Shown). over (line x) was) c;
+}
 
+-- of a line that is no call
 pub answer-written : (begun : Bool) (s : Station) (l : List ℕ) (e : Entry) (t : Turned) (put : ℕ) (was is : List ℕ) → e ≡ entry l → Answered t (answer standard (reading begun s) e)
-    → (put ≡ length (line (t .shown))) × (is ≡ over (line (t .shown)) was) → length is ≡ length was → Writes (record { begun = t .begun; station = t .station; put = put }) was is (answer standard (reading begun s) (entry l))
-answer-written begun s l e t put was is q k w h = written-as t (answer standard (reading begun s) (entry l)) put was is (subst (λ (x : Entry). Answered t (answer standard (reading begun s) x)) q k) w h
+    → (put ≡ length (line (t .shown))) × (is ≡ over (line (t .shown)) was) → length is ≡ length was → Writes (t .begun) (t .station) put was is (answer standard (reading begun s) (entry l))
+answer-written begun s l e t put was is q k w h =
+    let a = subst (λ (x : Entry). Answered t (answer standard (reading begun s) x)) q k in
+    shown-written (t .begun) (t .station) (answer standard (reading begun s) (entry l)) (t .shown) put was is (a .station) (a .lives) (a .shown) w h
+
+-- of one that is
+called-is : (begun : Bool) (e : Entry) → calls begun e ≡ true → (begun ≡ true) × (calls true e ≡ true)
+called-is begun (Watch w b) q = absurd (false≢true q)
+called-is begun (Call e) q = (q, refl)
+called-is begun Bad q = absurd (false≢true q)
+
+pub called-begun : (begun : Bool) (e : Entry) → calls begun e ≡ true → begun ≡ true
+called-begun begun e q = called-is begun e q .0
+
+pub called-event : (begun : Bool) (e : Entry) → calls begun e ≡ true → calls true e ≡ true
+called-event begun e q = called-is begun e q .1
+
+pub call-written : (begun : Bool) (s : Station) (l : List ℕ) (e : Entry) (c : Event) (o : Outcome) (v : Shown) (put : ℕ) (was is : List ℕ) → begun ≡ true → e ≡ entry l → e ≡ Call c → Next s c o
+    → v ≡ shown (letter c) (o .answer .code) (some (view (o .station))) → (put ≡ length (line v)) × (is ≡ over (line v) was) → length is ≡ length was
+    → Writes begun (o .station) put was is (answer standard (reading begun s) (entry l))
+call-written begun s l e c o v put was is t q d k z w h =
+    let a = answered-event s c o v k z in
+    let f : called c (step standard (view s) c) ≡ answer standard (reading begun s) (entry l) = rw (t, sym q, d) in
+    subst (λ (m : Turn). Writes begun (o .station) put was is m) f
+    (shown-written begun (o .station) (called c (step standard (view s) c)) v put was is (rw t (a .station)) (λ x. k .steady) (a .shown) w h)

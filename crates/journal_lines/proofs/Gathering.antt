@@ -61,16 +61,23 @@ module _ (was piece held : List ℕ) (n took : ℕ) (i : took < length piece) (k
   gather-passes ne h = gather-turns held n ne (k .long) (k .few) (hold-full held n next (k .long) (k .few) h)
 
   -- a newline
-  pub gather-newline : next ≡ 10 → Gathers was piece (record { held = held; «held_len» = n; took = took + 1; ended = true })
+  pub gather-newline : (left : ℕ) → (left ≡ 0 → ⊥) → next ≡ 10 → Gathers left was piece (record { held = held; «held_len» = n; took = took + 1; ended = true })
   unfolding keeps upToNewline hasNewline
-  gather-newline e =
+  gather-newline zero z e = absurd (z refl)
+  gather-newline (suc m) z e =
       let d : drop took piece ≡ next ∷ drop (suc took) piece = drop-cons piece took 0 i in
       let q : eqb next 10 ≡ true = eq-eqb next 10 e in
       record { held = sym (k .keeps ∙ rw (d, q)); long = k .long; few = k .few; took = sym (k .taken ∙ rw (d, q)); ended = sym (k .newline ∙ rw (d, q)) }
 
 -- the end of the piece
-pub gather-ends : (was piece held : List ℕ) (n took : ℕ) → length piece ≤ took → Gathering was piece held n took → Gathers was piece (record { held = held; «held_len» = n; took = took; ended = false })
+pub gather-ends : (was piece held : List ℕ) (n took : ℕ) → length piece ≤ took → Gathering was piece held n took → (left : ℕ) → (left ≡ 0 → ⊥) → Gathers left was piece (record { held = held; «held_len» = n; took = took; ended = false })
 unfolding keeps upToNewline hasNewline
-gather-ends was piece held n took h k =
+gather-ends was piece held n took h k zero z = absurd (z refl)
+gather-ends was piece held n took h k (suc m) z =
     let d : drop took piece ≡ [] = drop-of-length-le piece {i = took} h in
     record { held = sym (k .keeps ∙ rw d); long = k .long; few = k .few; took = sym (k .taken ∙ rw d (omega arith)); ended = sym (k .newline ∙ rw d) }
+
+-- no line may be read any more
+pub gather-spent : (left : ℕ) → left ≡ 0 → (held piece : List ℕ) (n : ℕ) → length held ≡ 80 → n ≤ 80 → Gathers left (take n held) piece (record { held = held; «held_len» = n; took = length piece; ended = false })
+gather-spent zero z held piece n e h = record { held = refl; long = e; few = h; took = refl; ended = refl }
+gather-spent (suc m) z held piece n e h = absurd (omega arith)

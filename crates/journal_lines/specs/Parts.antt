@@ -3,7 +3,7 @@ use mathlib.Core.Path.{_≡_}
 use mathlib.Core.Bool.{Bool, true, false, cond}
 use mathlib.Core.List.{List, [], _∷_, _++_}
 use mathlib.Core.Option.{Option, none, some}
-use Prim.Native.Nat.{ℕ, suc, _+_, _-_, _≤_, _<_}
+use Prim.Native.Nat.{ℕ, zero, suc, _+_, _-_, _≤_, _<_}
 use lib.Dec.{eqb}
 use lib.ListN.{length, take, drop}
 use Rattle.station.specs.declared.Station.{Station}
@@ -11,12 +11,13 @@ use Rattle.station.specs.View.{view}
 use Rattle.station.specs.Parts.{Steady}
 use Rattle.station_model.specs.Station as Model
 use Rattle.ranges.specs.Settings.{standard}
+use Rattle.line_in.specs.declared.Entry.{Entry}
+use Rattle.line_in.specs.declared.Entry.the-variants.{Watch, Call, Bad}
 use Rattle.line_out.specs.Shown.{line}
 use Rattle.journal_lines.specs.declared.Fed.{Fed}
 use Rattle.journal_lines.specs.declared.Gathered.{Gathered}
 use Rattle.journal_lines.specs.declared.Journal.{Journal}
 use Rattle.journal_lines.specs.declared.Turned.{Turned}
-use Rattle.journal_lines.specs.declared.Written.{Written}
 use Rattle.journal_lines.specs.Journal.{Turn}
 use Rattle.journal_lines.specs.Pieces.{hold, feed, within}
 use Rattle.journal_lines.specs.Pieces as Pieces
@@ -30,6 +31,12 @@ reading begun s = cond begun (some (view s)) none
 -- where there is one, it is sound, and nothing is pending beside an unready primary
 abbrev pub Lives : Bool → Station → Type 0
 Lives begun s = begun ≡ true → Steady s
+
+-- a line is a call of the station
+abbrev pub calls : Bool → Entry → Bool
+calls begun (Watch width switching) = false
+calls begun (Call e) = begun
+calls begun Bad = false
 
 -- a line's answer is as the definitions say
 pub record Answered (r : Turned) (t : Turn) : Type 0 where
@@ -54,12 +61,25 @@ unfoldable pub keeps : List ℕ → List ℕ → List ℕ
 keeps h [] = h
 keeps h (b ∷ l) = cond (eqb b 10) h (keeps (hold h b) l)
 
-pub record Gathers (was piece : List ℕ) (r : Gathered) : Type 0 where
-  pub held : take (r .«held_len») (r .held) ≡ keeps was piece
+-- the same three, where so many lines may still be read: where none may, all bytes are taken and none is held
+abbrev pub takenAt : ℕ → List ℕ → ℕ
+takenAt zero l = length l
+takenAt (suc n) l = upToNewline l
+
+abbrev pub newlineAt : ℕ → List ℕ → Bool
+newlineAt zero l = false
+newlineAt (suc n) l = hasNewline l
+
+abbrev pub keepsAt : ℕ → List ℕ → List ℕ → List ℕ
+keepsAt zero h l = h
+keepsAt (suc n) h l = keeps h l
+
+pub record Gathers (left : ℕ) (was piece : List ℕ) (r : Gathered) : Type 0 where
+  pub held : take (r .«held_len») (r .held) ≡ keepsAt left was piece
   pub long : length (r .held) ≡ 80
   pub few : r .«held_len» ≤ 80
-  pub took : r .took ≡ upToNewline piece
-  pub ended : r .ended ≡ hasNewline piece
+  pub took : r .took ≡ takenAt left piece
+  pub ended : r .ended ≡ newlineAt left piece
 
 -- ---- a journal
 
@@ -74,11 +94,11 @@ pub record Goes (j : Journal) : Type 0 where
   pub few : j .«held_len» ≤ 80
 
 -- a line's answer is written at the front of a buffer, and what stands behind it is left as it was
-pub record Writes (r : Written) (was is : List ℕ) (t : Turn) : Type 0 where
-  pub station : reading (r .begun) (r .station) ≡ t .station
-  pub lives : Lives (r .begun) (r .station)
-  pub put : r .put ≡ length (line (t .shown))
-  pub room : r .put ≤ length was
+pub record Writes (begun : Bool) (s : Station) (put : ℕ) (was is : List ℕ) (t : Turn) : Type 0 where
+  pub station : reading begun s ≡ t .station
+  pub lives : Lives begun s
+  pub long : put ≡ length (line (t .shown))
+  pub room : put ≤ length was
   pub out : is ≡ line (t .shown) ++ drop (length (line (t .shown))) was
 
 -- so many bytes of a piece were fed: the journal, and what was written at the front of the buffer

@@ -21,13 +21,6 @@ pub struct Turned {
     pub shown: Shown,
 }
 
-// A line's answer, written: whether there is a station after it, the station, and how many bytes were written.
-pub struct Written {
-    pub begun: bool,
-    pub station: Station,
-    pub put: usize,
-}
-
 // The bytes up to a newline: those held before and these, how many were taken, and whether the newline was there.
 pub struct Gathered {
     pub held: [u8; 80],

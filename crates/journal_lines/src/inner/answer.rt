@@ -1,10 +1,8 @@
 // A line's answer (document 01, "Journal program").
 use crate::Turned;
-use crate::Written;
 use line_in::Entry;
-use line_in::entry_of;
 use line_out::Shown;
-use line_out::inner::write_line;
+use station::Outcome;
 use station::Station;
 use station::inner::call::next;
 use station::inner::fresh::fresh;
@@ -12,15 +10,14 @@ use station_model::Code;
 use station_model::Event;
 ghost use mathlib.Core.Path.{_≡_};
 ghost use mathlib.Core.Option.{none, some};
-ghost use Prim.Native.Nat.{_≤_};
-ghost use lib.ListN.{length};
+ghost use mathlib.Core.Bool.{true};
 ghost use Rattle.ranges.specs.Settings.{standard};
 ghost use Rattle.station.specs.View.{view};
 ghost use Rattle.station.specs.Parts.{Steady};
 ghost use Rattle.station_model.specs.Station.{step};
-ghost use Rattle.line_in.specs.Form.{entry};
+ghost use Rattle.line_in.specs.declared.Entry.the-variants.{Call};
 ghost use Rattle.journal_lines.specs.Journal.{answer, bad, called, letter, opened, shown};
-ghost use Rattle.journal_lines.specs.Parts.{Answered, Lives, Writes, reading};
+ghost use Rattle.journal_lines.specs.Parts.{Answered, Lives, calls, reading};
 
 // The letter of an event.
 pub(crate) fn letter(e: Event) -> u8
@@ -122,10 +119,8 @@ pub(crate) fn event(s: Station, e: Event) -> Turned
     ensures { λ r. ⌜ Answered r (called e (step standard (view s) e)) ⌝ }
 {
     let o = next(s, e);
+    let shown = show_outcome(e, o);
     let station = o.station;
-    let a = o.answer;
-    let code = a.code;
-    let shown = show(station, letter(e), code);
     Turned {
         begun: true,
         station,
@@ -170,20 +165,42 @@ pub fn answer(begun: bool, s: Station, e: Entry) -> Turned
     answer_before(s, e)
 }
 
-// A line, without its newline, is answered, and the answer written.
-pub fn turn(begun: bool, s: Station, line: &[u8], out: &mut [u8]) -> Written
-    requires { ⌜ Lives begun s ⌝ }
-    requires { ⌜ 80 ≤ length (now out) ⌝ }
-    ensures { λ r. ⌜ Writes r (now (out .entry)) (now (out .exit)) (answer standard (reading begun s) (entry (now (line .entry)))) ⌝ }
+// Whether a line is a call of the station.
+pub(crate) fn calls(begun: bool, e: Entry) -> bool
+    ensures { λ r. ⌜ r ≡ calls begun e ⌝ }
 {
-    let e = entry_of(line);
-    let t = answer(begun, s, e);
-    let shown = t.shown;
-    let put = write_line(out, shown);
-    let station = t.station;
-    Written {
-        begun: t.begun,
-        station,
-        put,
+    match e {
+        Entry::Watch {
+            width: _,
+            switching: _,
+        } => false,
+        Entry::Call(_) => begun,
+        Entry::Bad => false,
     }
+}
+
+// The call that a line is.
+pub(crate) fn event_of(e: Entry) -> Event
+    requires { ⌜ calls true e ≡ true ⌝ }
+    ensures { λ r. ⌜ e ≡ Call r ⌝ }
+{
+    match e {
+        Entry::Watch {
+            width: _,
+            switching: _,
+        } => Event::Finish,
+        Entry::Call(c) => c,
+        Entry::Bad => Event::Finish,
+    }
+}
+
+// What is shown of a call's outcome.
+pub(crate) fn show_outcome(e: Event, o: Outcome) -> Shown
+    requires { ⌜ Steady (o .station) ⌝ }
+    ensures { λ r. ⌜ r ≡ shown (letter e) (o .answer .code) (some (view (o .station))) ⌝ }
+{
+    let s = o.station;
+    let a = o.answer;
+    let code = a.code;
+    show(s, letter(e), code)
 }

@@ -5,11 +5,19 @@ ghost use Prim.Native.Nat.{_≤_};
 ghost use lib.ListN.{length, take};
 ghost use Rattle.journal_lines.specs.Parts.{Gathers};
 
-// Holds the bytes of a piece up to its first newline, and takes that too.
-pub fn gather(was: [u8; 80], was_len: usize, piece: &[u8]) -> Gathered
+// Holds the bytes of a piece up to its first newline, and takes that too; where no line may be read any more, takes all and holds nothing.
+pub fn gather(was: [u8; 80], was_len: usize, left: u64, piece: &[u8]) -> Gathered
     requires { ⌜ «was_len» ≤ 80 ⌝ }
-    ensures { λ r. ⌜ Gathers (take «was_len» was) (now (piece .entry)) r ⌝ }
+    ensures { λ r. ⌜ Gathers left (take «was_len» was) (now (piece .entry)) r ⌝ }
 {
+    if left == 0 {
+        return Gathered {
+            held: was,
+            held_len: was_len,
+            took: piece.len(),
+            ended: false,
+        };
+    }
     let mut held = was;
     let mut held_len = was_len;
     let mut took: usize = 0;
