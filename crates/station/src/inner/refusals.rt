@@ -72,11 +72,10 @@ pub(crate) fn fault(e: Event) -> u8
 pub(crate) fn is_full(s: Station) -> bool
     ensures { λ r. ⌜ r ≡ full (view s) ⌝ }
 {
-    let b = s.bank;
-    if 4294967295 <= b.marks_seen {
+    if 4294967295 <= s.bank.marks_seen {
         return true;
     }
-    if 4294967295 <= b.gaps_seen {
+    if 4294967295 <= s.bank.gaps_seen {
         return true;
     }
     4294967295 <= s.accepted
