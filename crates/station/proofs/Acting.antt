@@ -14,15 +14,15 @@ use Rattle.tracker.specs.Sound as Tracking
 use Rattle.tracker.specs.Steps.{elementGap, seeded, canBegin, bootstrapped}
 use Rattle.tracker.specs.Steps as Steps
 use Rattle.bank_model.specs.Model.{Bank, Told, stay}
-use Rattle.bank_model.specs.Steps.{Taken, onMark, onGap, clear}
+use Rattle.bank_model.specs.Steps.{onMark, onGap, clear}
 use Rattle.bank.specs.declared.Changed.{Changed}
 use Rattle.bank.specs.View.{told}
 use Rattle.bank.specs.Parts.{Sturdy}
 use Rattle.station_model.specs.declared.Event.{Event}
 use Rattle.station_model.specs.declared.Code.{Code}
-use Rattle.station_model.specs.declared.Code.the-variants.{Done, BecameReady, Switched, Nothing}
+use Rattle.station_model.specs.declared.Code.the-variants.{Done, BecameReady, Nothing}
 use Rattle.station_model.specs.declared.Counts.{Counts}
-use Rattle.station_model.specs.Station.{Act, ready, act, readyAct, learntAct, liveAct, gapAct, finishAct, seedAct, switchAct, acted, accepted, tallied}
+use Rattle.station_model.specs.Station.{Act, ready, act, readyAct, learntAct, liveAct, gapAct, finishAct, seedAct, acted, accepted, tallied}
 use Rattle.station_model.specs.Station as Model
 use Rattle.station.specs.declared.Station.{Station}
 use Rattle.station.specs.declared.Outcome.{Outcome}
@@ -93,11 +93,11 @@ module _ (k : Settings) (m : Model.Station) where
     abbrev gapBy : Bool → Act
     gapBy b = cond b (act m (elementGap k (m .primary) d) (stay (onGap k (m .bank) (m .primary) d)) Done) (act m (m .primary) (stay (m .bank)) Done)
 
-    pub gap-is : (q : Tracker) (c : Bank) (t : Told) → ready (m .primary) ≡ true → q ≡ elementGap k (m .primary) d → c ≡ onGap k (m .bank) (m .primary) d → t ≡ stay c → act m q t Done ≡ gapAct k m d
-    gap-is q c t r e f g = as-both q _ t _ Done e (g ∙ ap stay f) ∙ sym (ap gapBy r)
+    pub gap-is : (q : Tracker) (c : Bank) → ready (m .primary) ≡ true → q ≡ elementGap k (m .primary) d → c ≡ onGap k (m .bank) (m .primary) d → act m q (stay c) Done ≡ gapAct k m d
+    gap-is q c r e f = as-both q _ (stay c) _ Done e (ap stay f) ∙ sym (ap gapBy r)
 
-    pub gap-not : (t : Told) → ready (m .primary) ≡ false → t ≡ stay (m .bank) → act m (m .primary) t Done ≡ gapAct k m d
-    gap-not t r g = as-told (m .primary) t _ Done g ∙ sym (ap gapBy r)
+    pub gap-not : ready (m .primary) ≡ false → act m (m .primary) (stay (m .bank)) Done ≡ gapAct k m d
+    gap-not r = sym (ap gapBy r)
 
   abbrev finishBy : Bool → Act
   finishBy b = cond b (readyAct k m (bootstrapped k (m .primary))) (act m (m .primary) (stay (m .bank)) Nothing)
@@ -110,11 +110,6 @@ module _ (k : Settings) (m : Model.Station) where
 
   pub seed-is : (v : Float) (q : Tracker) (t : Told) (b : Bool) → ready (m .primary) ≡ b → q ≡ seeded k (m .primary) v → t ≡ clear (m .bank) → act m q t (cond b Done BecameReady) ≡ seedAct k m v
   seed-is v q t b r e f = as-both q _ t _ (cond b Done BecameReady) e f ∙ sym (ap (λ (x : Bool). act m (seeded k (m .primary) v) (clear (m .bank)) (cond x Done BecameReady)) r)
-
-pub switch-is : (k w : Taken) (t : Told) (b : Bool) → k ≡ w → t ≡ stay (k .bank) → k .switched ≡ b → record { primary = k .primary; serial = k .serial; told = t; code = cond b Switched Nothing } ≡ switchAct w
-switch-is k w t b e f r =
-    ap (λ (x : Told). record { primary = k .primary; serial = k .serial; told = x; code = cond b Switched Nothing }) f
-    ∙ sym (ap (λ (x : Bool). record { primary = k .primary; serial = k .serial; told = stay (k .bank); code = cond x Switched Nothing }) r) ∙ ap switchAct e
 
 -- ---- the event that a call was given
 module _ (s : Station) {e f : Event} (q : e ≡ f) where

@@ -7,3 +7,5 @@ pub mod Refusing
 pub mod Answering
 pub mod Watching
 pub mod Steadying
+pub mod Moving
+pub mod Coding

@@ -52,7 +52,7 @@ quiet-choice s Clear k = refl
 quiet-choice s Switch k = choice-of (s .bank .«has_pending») (s .primary .pair .ready) (s .bank .pending) k
 
 -- so refusal 1 never holds
-quiet-refusal : (s : Station) (e : Event) → T (sound standard s) → Quiet (view s) → callRefusal standard s e ≡ refusal (view s) e
+pub quiet-refusal : (s : Station) (e : Event) → T (sound standard s) → Quiet (view s) → callRefusal standard s e ≡ refusal (view s) e
 quiet-refusal s e t k =
     ap (λ (b : Bool). cond (b && choiceSound s e) (refusal (view s) e) 1) (is-true (sound standard s) t)
     ∙ ap (λ (b : Bool). cond b (refusal (view s) e) 1) (quiet-choice s e k)

@@ -2,3 +2,4 @@ pub mod View
 pub mod Parts
 pub mod Sound
 pub mod Answers
+pub mod After

@@ -92,6 +92,19 @@ pub(crate) fn stay(b: TimingBank) -> Changed
     }
 }
 
+// A call that no one leaves at: the station after it, and the code.
+pub(crate) fn done(t: Station, code: Code) -> Outcome
+    ensures { λ r. ⌜ (r .answer .code ≡ code) × ((r .station ≡ t) × (r .answer .«left_len» ≡ 0)) ⌝ }
+{
+    let left = nobody();
+    let answer = Answer {
+        code,
+        left,
+        left_len: 0,
+    };
+    Outcome { station: t, answer }
+}
+
 // A call is accepted: the primary and its serial, the bank and those that left it, and the code.
 pub(crate) fn accept(
     s: Station,

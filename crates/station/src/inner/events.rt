@@ -2,22 +2,22 @@
 use crate::Outcome;
 use crate::Station;
 use crate::inner::accept::accept;
+use crate::inner::accept::done;
 use crate::inner::accept::stay;
+use crate::inner::after::after_gap;
+use crate::inner::after::after_hint;
+use crate::inner::after::after_switch;
+use crate::inner::after::switching;
 use bank::inner::clear::clear;
-use bank::inner::gap::on_gap;
 use bank::inner::mark as heard;
 use bank::inner::ready::on_ready;
-use bank::inner::switch::take_switch;
-use rival::inner::each::hear_one;
 use station_model::Code;
 use station_model::Event;
 use tracker::SpeedTracker;
 use tracker::inner::begin::bootstrap;
 use tracker::inner::begin::can_begin;
 use tracker::inner::begin::seed_wpm;
-use tracker::inner::gaps::set_ratio_hint;
 use tracker::inner::mark as learnt;
-use tracker::inner::speed::dit_estimate;
 ghost use mathlib.Core.Bool.{false};
 ghost use lib.Dec.{T};
 ghost use lib.Ieee.Positive.{positive};
@@ -94,18 +94,8 @@ pub(crate) fn gap(s: Station, d: f32) -> Outcome
     requires { ⌜ T (duration d) ⌝ }
     ensures { λ r. ⌜ Stands r (accepted (view s) (acted standard (view s) (Gap d))) ⌝ }
 {
-    let p = s.primary;
-    let b = s.bank;
-    let was = p.pair;
-    if was.ready {
-        let c = on_gap(b, p, d);
-        let unit = dit_estimate(p);
-        let q = hear_one(p, unit, d);
-        let t = stay(c);
-        return accept(s, q, s.serial, t, Code::Done);
-    }
-    let t = stay(b);
-    accept(s, p, s.serial, t, Code::Done)
+    let t = after_gap(s, d);
+    done(t, Code::Done)
 }
 
 // A finish.
@@ -145,11 +135,8 @@ pub(crate) fn hint(s: Station, ratio: f32) -> Outcome
     requires { ⌜ Solid s × Open s ⌝ }
     ensures { λ r. ⌜ Stands r (accepted (view s) (acted standard (view s) (Hint ratio))) ⌝ }
 {
-    let p = s.primary;
-    let b = s.bank;
-    let q = set_ratio_hint(p, ratio);
-    let kept = stay(b);
-    accept(s, q, s.serial, kept, Code::Done)
+    let t = after_hint(s, ratio);
+    done(t, Code::Done)
 }
 
 // A clear, of the bank alone.
@@ -169,16 +156,9 @@ pub(crate) fn switch(s: Station) -> Outcome
     requires { ⌜ Chosen (s .bank) (s .primary) ⌝ }
     ensures { λ r. ⌜ Stands r (accepted (view s) (acted standard (view s) Switch)) ⌝ }
 {
-    let p = s.primary;
-    let b = s.bank;
-    let k = take_switch(b, p, s.serial);
-    let q = k.primary;
-    let c = k.bank;
-    let t = stay(c);
-    if k.switched {
-        return accept(s, q, k.serial, t, Code::Switched);
-    }
-    accept(s, q, k.serial, t, Code::Nothing)
+    let t = after_switch(s);
+    let code = switching(s.serial, t.serial);
+    done(t, code)
 }
 
 // A mark, live or not.

@@ -1,8 +1,7 @@
 // Which refusal a call meets, 0 where it meets none (document 01, "Refusals in checking order").
-use crate::Answer;
 use crate::Outcome;
 use crate::Station;
-use crate::inner::accept::nobody;
+use crate::inner::accept::done;
 use ranges::duration_refusal;
 use ranges::is_positive;
 use station_model::Code;
@@ -72,11 +71,10 @@ pub(crate) fn fault(e: Event) -> u8
 pub(crate) fn is_full(s: Station) -> bool
     ensures { λ r. ⌜ r ≡ full (view s) ⌝ }
 {
-    let b = s.bank;
-    if 4294967295 <= b.marks_seen {
+    if 4294967295 <= s.bank.marks_seen {
         return true;
     }
-    if 4294967295 <= b.gaps_seen {
+    if 4294967295 <= s.bank.gaps_seen {
         return true;
     }
     4294967295 <= s.accepted
@@ -100,11 +98,5 @@ pub(crate) fn call_refusal(s: Station, e: Event) -> u8
 pub(crate) fn refuse(s: Station, n: u8) -> Outcome
     ensures { λ r. ⌜ (r .answer .code ≡ Refused n) × ((r .station ≡ s) × (r .answer .«left_len» ≡ 0)) ⌝ }
 {
-    let left = nobody();
-    let answer = Answer {
-        code: Code::Refused(n),
-        left,
-        left_len: 0,
-    };
-    Outcome { station: s, answer }
+    done(s, Code::Refused(n))
 }

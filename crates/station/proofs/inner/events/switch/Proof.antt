@@ -1,37 +1,29 @@
 -- `station::inner::events::switch` meets its contract. Assumes nothing.
-use mathlib.Core.Bool.{true, false}
-use Rattle.station.proofs.Acting.{turn, switch-is}
+use mathlib.Core.Path.{refl, ap, _∙_}
+use mathlib.Core.Bool.{cond}
+use Prim.Native.Nat.{ℕ}
+use lib.Dec.{eqb}
+use Rattle.station_model.specs.declared.Code.the-variants.{Switched, Nothing}
+use Rattle.station_model.specs.declared.Event.the-variants.{Switch}
+use Rattle.station_model.specs.Station as Model
 use Rattle.station.specs.View.{view}
-use Rattle.bank.specs.Switching.{viewTaken}
+use Rattle.station.proofs.Coding.{coded}
+use Rattle.station.proofs.Moving.{none-leave}
 use borrow.Author.Needs.{needs}
 use Rattle.station.proofs.inner.events.switch.Statement.{statement}
 use Rattle.station.proofs.inner.events.switch.Tie as tie
 
-take-switch-requires : tie.Need-take-switch-requires
-take-switch-requires c κs = search needs
+after-switch-requires : tie.Need-after-switch-requires
+after-switch-requires c κs = search needs
 
-stay-requires : tie.Need-stay-requires
-stay-requires c κs = search needs
+switching-requires : tie.Need-switching-requires
+switching-requires c κs = search needs
 
-accept-requires : tie.Need-accept-requires
-accept-requires c κs = search needs
+done-requires : tie.Need-done-requires
+done-requires c κs = search needs
 
 returns : tie.Need-returns
-returns c = let m = view (c .before .before .before .before .before .before .before .before .args .s) in turn m (c .accept .result) (switch-is (viewTaken (c .before .before .before .before .before .take-switch .result)) _ _ true (c .before .before .before .before .before .take-switch .ensures .is) (c .before .before .stay .ensures .is) (c .before .if1 .taken)) (c .accept .ensures)
-
-accept-requires-2 : tie.Need-accept-requires-2
-accept-requires-2 c κs = search needs
-
-returns-2 : tie.Need-returns-2
-returns-2 c = let m = view (c .before .before .before .before .before .before .before .before .args .s) in turn m (c .accept2 .result) (switch-is (viewTaken (c .before .before .before .before .before .take-switch .result)) _ _ false (c .before .before .before .before .before .take-switch .ensures .is) (c .before .before .stay .ensures .is) (c .before .if1 .left)) (c .accept2 .ensures)
+returns c = let s = c .before .before .before in let t = s .args .s in let h = c .before .before .after-switch in none-leave t (h .result) (c .done .result) _ _ (c .done .ensures) (h .ensures) (c .before .switching .ensures ∙ ap (λ (m : Model.Station). cond (eqb (m .serial) (t .serial)) Nothing Switched) (h .ensures .is) ∙ coded (view t) (s .pre .0 .0 .books) Switch) refl
 
 pub switch-spec : {M : Type 1} → statement M
-switch-spec =
-    tie.close
-    (tie.spec
-    take-switch-requires
-    stay-requires
-    accept-requires
-    returns
-    accept-requires-2
-    returns-2)
+switch-spec = tie.close (tie.spec after-switch-requires switching-requires done-requires returns)

@@ -1,0 +1,98 @@
+-- A station changed in place is what the definitions say, and steady again. Assumes nothing.
+use mathlib.Core.Path.{_≡_, refl, ap, sym, _∙_, subst}
+use mathlib.Core.List.{[]}
+use mathlib.Core.Option.{none}
+use Prim.Native.Nat.{ℕ, zero, suc, _+_}
+use native.Mathlib.Omega.{arith}
+use lib.Dec.{T}
+use lib.ListN.{take}
+use lib.Ieee.{Float}
+use Rattle.ranges.specs.Settings.{Settings, standard}
+use Rattle.tracker.specs.declared.SpeedTracker.{SpeedTracker}
+use Rattle.tracker.specs.Model.{Tracker}
+use Rattle.tracker.specs.Model as Tracked
+use Rattle.tracker.specs.Sound.{sound}
+use Rattle.bank_model.specs.Model.{Bank, stay}
+use Rattle.bank_model.specs.Steps.{Taken, on, untaken, takenOf, takeSwitch}
+use Rattle.bank.specs.declared.TimingBank.{TimingBank}
+use Rattle.bank.specs.View as Banked
+use Rattle.bank.specs.Parts.{Sturdy}
+use Rattle.station_model.specs.declared.Event.{Event}
+use Rattle.station_model.specs.declared.Code.{Code}
+use Rattle.station_model.specs.declared.Code.the-variants.{Done}
+use Rattle.station_model.specs.declared.Counts.{Counts}
+use Rattle.station_model.specs.Station.{Act, ready, gapAct, acted, accepted, refusal, step}
+use Rattle.station_model.specs.Station as Model
+use Rattle.station_model.proofs.Lists.{by-cond}
+use Rattle.station.specs.declared.Station.{Station}
+use Rattle.station.specs.declared.Outcome.{Outcome}
+use Rattle.station.specs.View.{view}
+use Rattle.station.specs.Parts.{Allowed, Booked, Open, Solid, Stands, Steady}
+use Rattle.station.specs.After.{Holds, Onward}
+use Rattle.station.proofs.Tallying.{tallied-none}
+use Rattle.station.proofs.Sounding.{solid-sound}
+use Rattle.station.proofs.Keeping.{booked-accepted, step-accepted}
+use Rattle.station.proofs.Refusing.{Accepted, accepted-of, accepted-open, accepted-fair}
+use Rattle.station.proofs.Watching.{Quiet, quiet-refusal}
+use Rattle.station.proofs.Steadying.{quiet-step}
+
+-- ---- one call that none leaves at
+module _ (s : Station) (p : SpeedTracker) (n : ℕ) (b : TimingBank) (c : Code) where
+  abbrev held : Counts → Model.Station
+  held l = record { primary = Tracked.view p; serial = n; bank = Banked.view b; counts = l; accepted = view s .accepted + 1 }
+
+  pub holds : (a : Act) → T (sound standard p) → Sturdy b → record { primary = Tracked.view p; serial = n; told = stay (Banked.view b); code = c } ≡ a
+      → Holds (record { primary = p; serial = n; bank = b; counts = s .counts; accepted = s .accepted + 1 }) (accepted (view s) a .station)
+  holds a f k e = record { is = sym (ap held (tallied-none (s .counts))) ∙ ap (λ (x : Act). accepted (view s) x .station) e; primary = f; bank = k }
+
+-- a switch where nothing is pending
+pub idle : (b : Bank) (p : Tracker) (n : ℕ) → b .pending ≡ none → untaken b p n ≡ takeSwitch b p n
+unfolding takeSwitch
+idle b p n e = by-cond (λ (t : Taken). untaken b p n ≡ t) (on b) (λ x. sym (ap (takenOf b p n) e)) (λ x. refl)
+
+-- ---- its answer
+module _ (k : Settings) (m : Model.Station) (d : Float) where
+  pub gap-quiet : (Done ≡ gapAct k m d .code) × (gapAct k m d .told .left ≡ [])
+  gap-quiet = by-cond (λ (a : Act). (Done ≡ a .code) × (a .told .left ≡ [])) (ready (m .primary)) (λ x. (refl, refl)) (λ x. (refl, refl))
+
+pub none-leave : (s t : Station) (r : Outcome) (a : Act) (c : Code) → (r .answer .code ≡ c) × ((r .station ≡ t) × (r .answer .«left_len» ≡ 0)) → Holds t (accepted (view s) a .station) → c ≡ a .code → a .told .left ≡ [] → Stands r (accepted (view s) a)
+none-leave s t r a c d h e f =
+    let q = d .1 .0 in
+    record {
+      is = λ i. record { station = (ap view q ∙ h .is) i; answer = record { code = (d .0 ∙ e) i; departures = (ap (λ (j : ℕ). take j (r .answer .left)) (d .1 .1) ∙ sym f) i } };
+      primary = subst (λ (x : Station). T (sound standard (x .primary))) (sym q) (h .primary);
+      bank = subst (λ (x : Station). Sturdy (x .bank)) (sym q) (h .bank);
+      few = let n = d .1 .1 in omega arith;
+    }
+
+-- the station of an outcome
+pub stands-holds : (r : Outcome) (m : Model.Outcome) → Stands r m → Holds (r .station) (m .station)
+stands-holds r m k = record { is = ap (λ (x : Model.Outcome). x .station) (k .is); primary = k .primary; bank = k .bank }
+
+-- ---- a call on a steady station
+module _ (s : Station) (e : Event) (k : Steady s) where
+  module _ (z : refusal (view s) e ≡ 0) where
+    met : Accepted s e
+    met = accepted-of s e (quiet-refusal s e (solid-sound s (k .solid)) (k .unready) ∙ z)
+
+    pub ready-for : {f : Event} → e ≡ f → (Solid s × Open s) × Allowed s f
+    ready-for q = ((k .solid, accepted-open s e met), subst (λ (x : Event). Allowed s x) q (accepted-fair s e met))
+
+    abbrev done : Event → Model.Station
+    done f = accepted (view s) (acted standard (view s) f) .station
+
+    pub onward : {f : Event} → e ≡ f → (r : Station) → Holds r (done f) → Onward s e r
+    onward q r y =
+        let h : Holds r (done e) = subst (λ (x : Event). Holds r (done x)) (sym q) y in
+        let w : view r ≡ step standard (view s) e .station = h .is ∙ ap (λ (x : Model.Outcome). x .station) (step-accepted standard (view s) e z) in
+        let books : Booked (view r) = subst Booked (sym (h .is)) (booked-accepted standard (view s) e (accepted-open s e met .accepted) (k .solid .books)) in
+        (w, record { solid = record { primary = h .primary; bank = h .bank; books = books }; unready = subst Quiet (sym w) (quiet-step standard (view s) (k .unready) e) })
+
+  kept : (n : ℕ) → (n ≡ 0 → ⊥) → view s ≡ Model.outcome standard (view s) e n .station
+  kept zero h = absurd (h refl)
+  kept (suc n) h = refl
+
+  -- a refused call changes nothing
+  pub unmoved : (refusal (view s) e ≡ 0 → ⊥) → Onward s e s
+  unfolding step
+  unmoved h = (kept (refusal (view s) e) h, k)
