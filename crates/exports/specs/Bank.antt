@@ -4,6 +4,7 @@ use mathlib.Core.Bool.{Bool, true, false, cond}
 use mathlib.Core.List.{List, map}
 use Prim.Native.Nat.{ℕ, _≤_}
 use lib.Dec.{T, eqb, leb}
+use lib.ListN.{take}
 use Rattle.ranges.specs.Limits.{nought}
 use Rattle.ranges.specs.Settings.{standard}
 use Rattle.tracker.specs.declared.SpeedTracker.{SpeedTracker}
@@ -26,7 +27,7 @@ use Rattle.bank.specs.Answers.{Shown, shown, nothing, barred, widthRefusal}
 use Rattle.plain.specs.declared.PlainBank.{PlainBank}
 use Rattle.plain.specs.declared.PlainHypothesis.{PlainHypothesis}
 use Rattle.plain.specs.declared.PlainDeparture.{PlainDeparture}
-use Rattle.plain.specs.Plain.{bankOf, plainBank, plainHyp, plainDeparture, isBank, departures}
+use Rattle.plain.specs.Plain.{bankOf, plainBank, plainHyp, plainDeparture, isBank}
 use Rattle.exports.specs.declared.inner.BankChanged.{BankChanged}
 use Rattle.exports.specs.declared.inner.BankTaken.{BankTaken}
 use Rattle.exports.specs.declared.of_bank.BankAnswered.{BankAnswered}
@@ -41,12 +42,13 @@ use Rattle.exports.specs.Tracker.{code, yes}
 abbrev pub Held : PlainBank → Type 0
 Held b = Sturdy (bankOf b)
 
--- a bank in plain form and those that left it
-abbrev pub toldOf : PlainBank → List PlainDeparture → ℕ → Model.Told
-toldOf b l n = record { bank = view (bankOf b); left = departures l n }
+-- a bank in plain form, and the first n of l as those that left it, are what m says; places beyond n are free
+pub record Tells (m : Model.Told) (b : PlainBank) (l : List PlainDeparture) (n : ℕ) : Type 0 where
+  pub bank : view (bankOf b) ≡ m .bank
+  pub left : take n l ≡ map plainDeparture (m .left)
 
-abbrev pub changedTo : BankChanged → Model.Told
-changedTo r = toldOf (r .bank) (r .left) (r .«left_len»)
+abbrev pub ChangedTo : Model.Told → BankChanged → Type 0
+ChangedTo m r = Tells m (r .bank) (r .left) (r .«left_len»)
 
 -- a bank and a primary after a switch call
 abbrev pub takenOf : PlainBank → SpeedTracker → ℕ → Bool → Steps.Taken
@@ -71,7 +73,7 @@ pub record Well (b : PlainBank) : Type 0 where
 pub record BankAnswers (n : ℕ) (b : PlainBank) (m : Model.Told) (r : BankAnswered) : Type 0 where
   pub says : r .code ≡ n
   pub kept : (n ≡ 0 → ⊥) → (r .bank ≡ b) × (r .«left_len» ≡ 0)
-  pub state : n ≡ 0 → toldOf (r .bank) (r .left) (r .«left_len») ≡ m
+  pub state : n ≡ 0 → Tells m (r .bank) (r .left) (r .«left_len»)
   pub still : n ≡ 0 → Well (r .bank)
   pub few : r .«left_len» ≤ 9
 

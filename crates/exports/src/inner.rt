@@ -16,8 +16,8 @@ ghost use Rattle.bank_model.specs.Steps as Bank;
 ghost use Rattle.bank.specs.View as Banked;
 ghost use Rattle.bank.specs.Parts.{Countable, Sturdy};
 ghost use Rattle.bank.specs.Switching.{Chosen};
-ghost use Rattle.plain.specs.Plain.{bankOf, departures};
-ghost use Rattle.exports.specs.Bank.{Held, changedTo, takenTo};
+ghost use Rattle.plain.specs.Plain.{bankOf};
+ghost use Rattle.exports.specs.Bank.{ChangedTo, Held, takenTo};
 
 // A bank after a call, and those that left it in the call.
 #[repr(C)]
@@ -65,7 +65,7 @@ pub extern "C" fn hullathan_inner_bank_on_mark(
     requires { ⌜ Held b × Countable (bankOf b) ⌝ }
     requires { ⌜ T (sound standard p) ⌝ }
     requires { ⌜ T (duration «dur_ms») ⌝ }
-    ensures { λ r. ⌜ (changedTo r ≡ Bank.onMark standard (Banked.view (bankOf b)) (view p) «dur_ms» live) × Held (r .bank) ⌝ }
+    ensures { λ r. ⌜ ChangedTo (Bank.onMark standard (Banked.view (bankOf b)) (view p) «dur_ms» live) r × Held (r .bank) ⌝ }
 {
     let u = bank_of(b);
     let c = u.bank;
