@@ -16,7 +16,7 @@ use Rattle.plain.specs.declared.PlainBank.{PlainBank}
 use Rattle.plain.specs.declared.PlainDeparture.{PlainDeparture}
 use Rattle.plain.specs.Plain.{bankOf, plainBank, plainDeparture}
 use Rattle.plain.proofs.Back.{bank-back, first-left}
-use Rattle.exports.specs.Bank.{Tells, takenTo}
+use Rattle.exports.specs.Bank.{Neat, Tells, takenTo}
 
 -- what holds of a bank holds of that which its plain form means
 pub back : (P : TimingBank → Type 0) {d : TimingBank} {q : PlainBank} → q ≡ plainBank d → P d → P (bankOf q)
@@ -30,7 +30,11 @@ read P b e h = subst P (sym e) h
 pub bank-is : {d : TimingBank} {q : PlainBank} → q ≡ plainBank d → bankOf q ≡ d
 bank-is {d} {q} e = ap bankOf e ∙ bank-back d
 
--- and so are those that left
+-- which is the one that the bank has
+pub neat : (d : TimingBank) {q : PlainBank} → q ≡ plainBank d → Neat q
+neat d e = e ∙ sym (ap plainBank (bank-is {d = d} e))
+
+-- those that left are told in plain form too
 pub left-is : (l : List Departure) {q : List PlainDeparture} (n : ℕ) → q ≡ map plainDeparture l → take n q ≡ map plainDeparture (take n l)
 left-is l {q} n e = ap (take n) e ∙ first-left n l
 

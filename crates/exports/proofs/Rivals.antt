@@ -32,7 +32,7 @@ use Rattle.exports.specs.declared.of_bank.BankSwitched.{BankSwitched}
 use Rattle.exports.specs.declared.of_bank.BankChallenger.{BankChallenger}
 use Rattle.exports.specs.Tracker.{code, yes}
 use Rattle.exports.specs.Bank.{BankAnswers, BankHears, BankStarted, BankSwitches, Well, handedOn, heardOn, passedOn, plainThen, switchedOn, takenOf}
-use Rattle.exports.proofs.Banking.{changed-is}
+use Rattle.exports.proofs.Banking.{changed-is, neat}
 
 pub code-unless : (n : ℕ) → code (unless n done) ≡ n
 code-unless zero = refl
@@ -54,7 +54,7 @@ pub refused-with : {n : ℕ} (b : PlainBank) (d : TimingBank) → (n ≡ 0 → �
 refused-with {n} b d h = rw (ne-eqb n 0 h)
 
 pub well : (d : TimingBank) → T (sound standard widest d) → Well (plainBank d)
-well d h = record { is = bank-named d; sound = subst (λ (z : TimingBank). T (sound standard widest z)) (sym (bank-back d)) h }
+well d h = record { is = bank-named d; neat = neat d refl; sound = subst (λ (z : TimingBank). T (sound standard widest z)) (sym (bank-back d)) h }
 
 well-as : {q : PlainBank} (d : TimingBank) → q ≡ plainBank d → T (sound standard widest d) → Well q
 well-as d e h = subst Well (sym e) (well d h)

@@ -80,7 +80,7 @@ is-back : {q : PlainStation} (d : Station) → q ≡ plainStation d → stationO
 is-back d e = ap stationOf e ∙ station-back d
 
 kept-as : {q : PlainStation} (d : Station) → q ≡ plainStation d → T (sound standard d) → Kept q
-kept-as d e h = record { is = ap isStation e ∙ station-named d; sound = subst (λ (z : Station). T (sound standard z)) (sym (is-back d e)) h }
+kept-as d e h = record { is = ap isStation e ∙ station-named d; neat = e ∙ sym (ap plainStation (is-back d e)); sound = subst (λ (z : Station). T (sound standard z)) (sym (is-back d e)) h }
 
 -- ---- a form that is a station's
 module _ (p : PlainStation) (i : isStation p ≡ true) where

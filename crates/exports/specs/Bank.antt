@@ -42,6 +42,10 @@ use Rattle.exports.specs.Tracker.{code, yes}
 abbrev pub Held : PlainBank → Type 0
 Held b = Sturdy (bankOf b)
 
+-- the form is the one that its bank has: no number stands in it that its bank has not
+abbrev pub Neat : PlainBank → Type 0
+Neat b = b ≡ plainBank (bankOf b)
+
 -- a bank in plain form, and the first n of l as those that left it, are what m says; places beyond n are free
 pub record Tells (m : Model.Told) (b : PlainBank) (l : List PlainDeparture) (n : ℕ) : Type 0 where
   pub bank : view (bankOf b) ≡ m .bank
@@ -63,9 +67,11 @@ takenTo r = takenOf (r .bank) (r .primary) (r .serial) (r .switched)
 abbrev pub plainThen : PlainBank → ℕ → ℕ
 plainThen b n = cond (isBank b) n 1
 
--- what a bank that is handed back has: its form is a bank's, and sound
+-- what a bank that is handed out has. With what `view` says of it, every number of it is fixed, but for those that are no part of a state:
+-- "Places beyond a count and numbers marked absent"
 pub record Well (b : PlainBank) : Type 0 where
   pub is : isBank b ≡ true
+  pub neat : Neat b
   pub sound : T (sound standard widest (bankOf b))
 
 -- ---- what a call, handed b, answers where the refusal is n: b bit for bit, and none left; where there is none, what m says

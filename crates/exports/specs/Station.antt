@@ -48,9 +48,11 @@ ofAsked A.Unknown = none
 abbrev pub formThen : PlainStation → ℕ → ℕ
 formThen p n = cond (isStation p) n 1
 
--- what a station that is handed back has: its form is a station's, and sound
+-- what a station that is handed out has. With what `view` says of it, every number of it is fixed, but for those that are no part of a state:
+-- "Places beyond a count and numbers marked absent"
 pub record Kept (p : PlainStation) : Type 0 where
   pub is : isStation p ≡ true
+  pub neat : p ≡ plainStation (stationOf p)
   pub sound : T (sound standard (stationOf p))
 
 -- refused by n: the form bit for bit, and none left
