@@ -32,7 +32,7 @@ retained (FormerPrimary n) = n
 abbrev pub originOf : ℕ → ℕ → Origin
 originOf n marks = cond (eqb n 1) Streak (cond (eqb n 2) (FormerPrimary marks) Bootstrap)
 
--- "twin or else outscored or else aged at `prune`, replaced at `spawn`, cleared at clear or seed": 0 to 4
+-- "twin or else outscored (12 or more behind) or else aged (64 marks) at `prune`, replaced at `spawn`, cleared at clear or seed": 0 to 4
 abbrev pub causeCode : Cause → ℕ
 causeCode Twin = 0
 causeCode Outscored = 1
