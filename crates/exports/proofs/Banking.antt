@@ -14,9 +14,9 @@ use Rattle.bank.specs.View.{view, told}
 use Rattle.bank.specs.Switching.{viewTaken}
 use Rattle.plain.specs.declared.PlainBank.{PlainBank}
 use Rattle.plain.specs.declared.PlainDeparture.{PlainDeparture}
-use Rattle.plain.specs.Plain.{bankOf, plainBank, plainDeparture, departures}
-use Rattle.plain.proofs.Back.{bank-back, departures-back}
-use Rattle.exports.specs.Bank.{changedTo, takenTo}
+use Rattle.plain.specs.Plain.{bankOf, plainBank, plainDeparture}
+use Rattle.plain.proofs.Back.{bank-back, first-left}
+use Rattle.exports.specs.Bank.{Neat, Tells, takenTo}
 
 -- what holds of a bank holds of that which its plain form means
 pub back : (P : TimingBank → Type 0) {d : TimingBank} {q : PlainBank} → q ≡ plainBank d → P d → P (bankOf q)
@@ -30,14 +30,19 @@ read P b e h = subst P (sym e) h
 pub bank-is : {d : TimingBank} {q : PlainBank} → q ≡ plainBank d → bankOf q ≡ d
 bank-is {d} {q} e = ap bankOf e ∙ bank-back d
 
-pub left-is : (l : List Departure) {q : List PlainDeparture} (n : ℕ) → q ≡ map plainDeparture l → departures q n ≡ take n l
-left-is l {q} n e = ap (λ (z : List PlainDeparture). departures z n) e ∙ departures-back l n
+-- which is the one that the bank has
+pub neat : (d : TimingBank) {q : PlainBank} → q ≡ plainBank d → Neat q
+neat d e = e ∙ sym (ap plainBank (bank-is {d = d} e))
 
-abbrev pub a-told : TimingBank → List Departure → Told
-a-told b l = record { bank = view b; left = l }
+-- those that left are told in plain form too
+pub left-is : (l : List Departure) {q : List PlainDeparture} (n : ℕ) → q ≡ map plainDeparture l → take n q ≡ map plainDeparture (take n l)
+left-is l {q} n e = ap (take n) e ∙ first-left n l
 
-pub changed-is : (m : Changed) {q : PlainBank} {l : List PlainDeparture} → q ≡ plainBank (m .bank) → l ≡ map plainDeparture (m .left) → changedTo (record { bank = q; left = l; «left_len» = m .«left_len» }) ≡ told m
-changed-is m {q} {l} e f = ap (λ (b : TimingBank). a-told b (departures l (m .«left_len»))) (bank-is {d = m .bank} {q = q} e) ∙ ap (a-told (m .bank)) (left-is (m .left) {q = l} (m .«left_len») f)
+pub changed-is : (m : Changed) {q : PlainBank} {l : List PlainDeparture} {t : Told} → q ≡ plainBank (m .bank) → l ≡ map plainDeparture (m .left) → told m ≡ t → Tells t q l (m .«left_len»)
+changed-is m {q} {l} e f s = record {
+  bank = ap view (bank-is e) ∙ ap (λ (z : Told). z .bank) s;
+  left = left-is (m .left) (m .«left_len») f ∙ ap (λ (z : Told). map plainDeparture (z .left)) s;
+}
 
 abbrev pub a-taken : TimingBank → Taken → Steps.Taken
 a-taken b t = record { bank = view b; primary = Tracked.view (t .primary); serial = t .serial; switched = t .switched }

@@ -1,7 +1,6 @@
 -- What a public call of a bank answers stands in the plain form that leaves; a form that is no bank's is refused. Assumes nothing.
 use mathlib.Core.Path.{_≡_, refl, ap, sym, _∙_, subst}
 use mathlib.Core.Bool.{Bool, true, false, cond}
-use mathlib.Core.List.{map}
 use Prim.Native.Nat.{ℕ, zero, suc}
 use native.Mathlib.Omega.{arith}
 use lib.Dec.{T, eqb}
@@ -19,21 +18,21 @@ use Rattle.bank.specs.declared.Changed.{Changed}
 use Rattle.bank.specs.declared.Answered.{Answered}
 use Rattle.bank.specs.declared.Heard.{Heard}
 use Rattle.bank.specs.declared.Switched.{Switched}
-use Rattle.bank.specs.View.{view, told}
+use Rattle.bank.specs.View.{view}
 use Rattle.bank.specs.Parts.{widest}
 use Rattle.bank.specs.Sound.{sound}
 use Rattle.bank.specs.Answers.{Answers, Hears, Started, Switches, bankThen, widthRefusal}
 use Rattle.plain.specs.declared.PlainBank.{PlainBank}
 use Rattle.plain.specs.declared.PlainHypothesis.{PlainHypothesis}
-use Rattle.plain.specs.Plain.{bankOf, plainBank, plainDeparture, isBank, departures}
-use Rattle.plain.proofs.Back.{bank-back, bank-named, departures-back}
+use Rattle.plain.specs.Plain.{bankOf, plainBank, isBank}
+use Rattle.plain.proofs.Back.{bank-back, bank-named}
 use Rattle.exports.specs.declared.of_bank.BankAnswered.{BankAnswered}
 use Rattle.exports.specs.declared.of_bank.BankHeard.{BankHeard}
 use Rattle.exports.specs.declared.of_bank.BankSwitched.{BankSwitched}
 use Rattle.exports.specs.declared.of_bank.BankChallenger.{BankChallenger}
 use Rattle.exports.specs.Tracker.{code, yes}
-use Rattle.exports.specs.Bank.{BankAnswers, BankHears, BankStarted, BankSwitches, Well, handedOn, heardOn, passedOn, plainThen, switchedOn, takenOf, toldOf}
-use Rattle.exports.proofs.Banking.{a-told}
+use Rattle.exports.specs.Bank.{BankAnswers, BankHears, BankStarted, BankSwitches, Well, handedOn, heardOn, passedOn, plainThen, switchedOn, takenOf}
+use Rattle.exports.proofs.Banking.{changed-is, neat}
 
 pub code-unless : (n : ℕ) → code (unless n done) ≡ n
 code-unless zero = refl
@@ -55,18 +54,13 @@ pub refused-with : {n : ℕ} (b : PlainBank) (d : TimingBank) → (n ≡ 0 → �
 refused-with {n} b d h = rw (ne-eqb n 0 h)
 
 pub well : (d : TimingBank) → T (sound standard widest d) → Well (plainBank d)
-well d h = record { is = bank-named d; sound = subst (λ (z : TimingBank). T (sound standard widest z)) (sym (bank-back d)) h }
+well d h = record { is = bank-named d; neat = neat d refl; sound = subst (λ (z : TimingBank). T (sound standard widest z)) (sym (bank-back d)) h }
 
 well-as : {q : PlainBank} (d : TimingBank) → q ≡ plainBank d → T (sound standard widest d) → Well q
 well-as d e h = subst Well (sym e) (well d h)
 
 view-as : {q : PlainBank} (d : TimingBank) → q ≡ plainBank d → view (bankOf q) ≡ view d
 view-as d e = ap (λ (z : PlainBank). view (bankOf z)) e ∙ ap view (bank-back d)
-
-told-as : {q : PlainBank} (c : Changed) → q ≡ plainBank (c .bank) → toldOf q (map plainDeparture (c .left)) (c .«left_len») ≡ told c
-told-as {q} c e =
-    ap (λ (z : PlainBank). toldOf z (map plainDeparture (c .left)) (c .«left_len»)) e ∙ ap (λ (z : TimingBank). a-told z (departures (map plainDeparture (c .left)) (c .«left_len»))) (bank-back (c .bank))
-    ∙ ap (a-told (c .bank)) (departures-back (c .left) (c .«left_len»))
 
 -- what a switch call leaves, with another bank
 abbrev taking : TimingBank → Switched → Bool → Steps.Taken
@@ -84,7 +78,7 @@ module _ (b : PlainBank) (e : isBank b ≡ true) where
       record {
         says = i ∙ sym (known n);
         kept = λ z. (refused-with b (c .bank) (λ w. z (known n ∙ sym i ∙ w)), h .kept (λ w. z (known n ∙ w)) .1);
-        state = λ z. told-as c (done-with b (c .bank) (i ∙ sym (known n) ∙ z)) ∙ h .state (sym (known n) ∙ z);
+        state = λ z. changed-is c (done-with b (c .bank) (i ∙ sym (known n) ∙ z)) refl (h .state (sym (known n) ∙ z));
         still = λ z. well-as (c .bank) (done-with b (c .bank) (i ∙ sym (known n) ∙ z)) (h .still (sym (known n) ∙ z));
         few = h .few;
       }

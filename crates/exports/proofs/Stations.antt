@@ -1,6 +1,7 @@
 -- What a public call of a station answers stands in the plain form that leaves; a form that is no station's is refused. Assumes nothing.
 use mathlib.Core.Path.{_≡_, refl, ap, sym, _∙_, subst}
 use mathlib.Core.Bool.{Bool, true, false, cond, not, _&&_}
+use mathlib.Core.List.{map}
 use mathlib.Core.Option.{Option, none, some}
 use Prim.Native.Nat.{ℕ}
 use native.Mathlib.Omega.{arith}
@@ -26,13 +27,14 @@ use Rattle.station.specs.declared.Outcome.{Outcome}
 use Rattle.station.specs.View.{view}
 use Rattle.station.specs.Sound.{sound, choiceSound}
 use Rattle.station.specs.Answers.{Begins, Called, Watched, callRefusal}
-use Rattle.plain.proofs.Back.{departures-back}
+use Rattle.plain.specs.Plain.{plainDeparture}
 use Rattle.plain_station.specs.declared.PlainStation.{PlainStation}
 use Rattle.plain_station.specs.Plain.{plainStation, stationOf, isStation}
 use Rattle.plain_station.proofs.Back.{station-back, station-named}
 use Rattle.exports.specs.declared.of_station.StationAnswered.{StationAnswered}
 use Rattle.exports.specs.Tracker.{code}
 use Rattle.exports.specs.Station.{CallAnswers, Kept, StationAnswers, StationBegins, Stopped, eventOf, formThen, outcomeOn}
+use Rattle.exports.proofs.Banking.{left-is}
 use Rattle.exports.proofs.Rivals.{code-unless}
 
 -- a kind above 6 is no event's
@@ -78,7 +80,7 @@ is-back : {q : PlainStation} (d : Station) → q ≡ plainStation d → stationO
 is-back d e = ap stationOf e ∙ station-back d
 
 kept-as : {q : PlainStation} (d : Station) → q ≡ plainStation d → T (sound standard d) → Kept q
-kept-as d e h = record { is = ap isStation e ∙ station-named d; sound = subst (λ (z : Station). T (sound standard z)) (sym (is-back d e)) h }
+kept-as d e h = record { is = ap isStation e ∙ station-named d; neat = e ∙ sym (ap plainStation (is-back d e)); sound = subst (λ (z : Station). T (sound standard z)) (sym (is-back d e)) h }
 
 -- ---- a form that is a station's
 module _ (p : PlainStation) (i : isStation p ≡ true) where
@@ -98,7 +100,7 @@ module _ (p : PlainStation) (i : isStation p ≡ true) where
               refused = ap (λ (m : Model.Outcome). not (taken (m .answer .code))) y;
               code = ap (λ (m : Model.Outcome). number (m .answer .code)) y;
               station = ap view (is-back (o .station) (same z)) ∙ ap (λ (m : Model.Outcome). m .station) y;
-              left = departures-back (o .answer .left) (o .answer .«left_len») ∙ ap (λ (m : Model.Outcome). m .answer .departures) y;
+              left = left-is (o .answer .left) (o .answer .«left_len») refl ∙ ap (λ (m : Model.Outcome). map plainDeparture (m .answer .departures)) y;
             };
         still = λ z. kept-as (o .station) (same z) (h .still (sym (known n) ∙ z));
         few = h .few;

@@ -4,6 +4,7 @@ use mathlib.Core.Bool.{Bool, true, false, cond}
 use mathlib.Core.List.{List, map}
 use Prim.Native.Nat.{ℕ, _≤_}
 use lib.Dec.{T, eqb, leb}
+use lib.ListN.{take}
 use Rattle.ranges.specs.Limits.{nought}
 use Rattle.ranges.specs.Settings.{standard}
 use Rattle.tracker.specs.declared.SpeedTracker.{SpeedTracker}
@@ -26,7 +27,7 @@ use Rattle.bank.specs.Answers.{Shown, shown, nothing, barred, widthRefusal}
 use Rattle.plain.specs.declared.PlainBank.{PlainBank}
 use Rattle.plain.specs.declared.PlainHypothesis.{PlainHypothesis}
 use Rattle.plain.specs.declared.PlainDeparture.{PlainDeparture}
-use Rattle.plain.specs.Plain.{bankOf, plainBank, plainHyp, plainDeparture, isBank, departures}
+use Rattle.plain.specs.Plain.{bankOf, plainBank, plainHyp, plainDeparture, isBank}
 use Rattle.exports.specs.declared.inner.BankChanged.{BankChanged}
 use Rattle.exports.specs.declared.inner.BankTaken.{BankTaken}
 use Rattle.exports.specs.declared.of_bank.BankAnswered.{BankAnswered}
@@ -41,12 +42,17 @@ use Rattle.exports.specs.Tracker.{code, yes}
 abbrev pub Held : PlainBank → Type 0
 Held b = Sturdy (bankOf b)
 
--- a bank in plain form and those that left it
-abbrev pub toldOf : PlainBank → List PlainDeparture → ℕ → Model.Told
-toldOf b l n = record { bank = view (bankOf b); left = departures l n }
+-- the form is the one that its bank has: no number stands in it that its bank has not
+abbrev pub Neat : PlainBank → Type 0
+Neat b = b ≡ plainBank (bankOf b)
 
-abbrev pub changedTo : BankChanged → Model.Told
-changedTo r = toldOf (r .bank) (r .left) (r .«left_len»)
+-- a bank in plain form, and the first n of l as those that left it, are what m says; places beyond n are free
+pub record Tells (m : Model.Told) (b : PlainBank) (l : List PlainDeparture) (n : ℕ) : Type 0 where
+  pub bank : view (bankOf b) ≡ m .bank
+  pub left : take n l ≡ map plainDeparture (m .left)
+
+abbrev pub ChangedTo : Model.Told → BankChanged → Type 0
+ChangedTo m r = Tells m (r .bank) (r .left) (r .«left_len»)
 
 -- a bank and a primary after a switch call
 abbrev pub takenOf : PlainBank → SpeedTracker → ℕ → Bool → Steps.Taken
@@ -61,9 +67,11 @@ takenTo r = takenOf (r .bank) (r .primary) (r .serial) (r .switched)
 abbrev pub plainThen : PlainBank → ℕ → ℕ
 plainThen b n = cond (isBank b) n 1
 
--- what a bank that is handed back has: its form is a bank's, and sound
+-- what a bank that is handed out has. With what `view` says of it, every number of it is fixed, but for those that are no part of a state:
+-- "Places beyond a count and numbers marked absent"
 pub record Well (b : PlainBank) : Type 0 where
   pub is : isBank b ≡ true
+  pub neat : Neat b
   pub sound : T (sound standard widest (bankOf b))
 
 -- ---- what a call, handed b, answers where the refusal is n: b bit for bit, and none left; where there is none, what m says
@@ -71,7 +79,7 @@ pub record Well (b : PlainBank) : Type 0 where
 pub record BankAnswers (n : ℕ) (b : PlainBank) (m : Model.Told) (r : BankAnswered) : Type 0 where
   pub says : r .code ≡ n
   pub kept : (n ≡ 0 → ⊥) → (r .bank ≡ b) × (r .«left_len» ≡ 0)
-  pub state : n ≡ 0 → toldOf (r .bank) (r .left) (r .«left_len») ≡ m
+  pub state : n ≡ 0 → Tells m (r .bank) (r .left) (r .«left_len»)
   pub still : n ≡ 0 → Well (r .bank)
   pub few : r .«left_len» ≤ 9
 

@@ -5,6 +5,7 @@ use mathlib.Core.List.{map}
 use mathlib.Core.Option.{Option, none, some}
 use Prim.Native.Nat.{ℕ, _≤_}
 use lib.Dec.{T, eqb, leb}
+use lib.ListN.{take}
 use lib.Ieee.{Float}
 use Rattle.ranges.specs.Settings.{standard}
 use Rattle.bank.specs.Parts.{widest}
@@ -17,7 +18,7 @@ use Rattle.station.specs.declared.Outcome.{Outcome}
 use Rattle.station.specs.View.{view}
 use Rattle.station.specs.Sound.{sound}
 use Rattle.station.specs.Answers.{Watched, callRefusal}
-use Rattle.plain.specs.Plain.{plainDeparture, departures}
+use Rattle.plain.specs.Plain.{plainDeparture}
 use Rattle.plain_station.specs.declared.PlainStation.{PlainStation}
 use Rattle.plain_station.specs.Plain.{plainStation, stationOf, isStation}
 use Rattle.exports.specs.declared.of_station.Asked.{Asked}
@@ -47,9 +48,11 @@ ofAsked A.Unknown = none
 abbrev pub formThen : PlainStation → ℕ → ℕ
 formThen p n = cond (isStation p) n 1
 
--- what a station that is handed back has: its form is a station's, and sound
+-- what a station that is handed out has. With what `view` says of it, every number of it is fixed, but for those that are no part of a state:
+-- "Places beyond a count and numbers marked absent"
 pub record Kept (p : PlainStation) : Type 0 where
   pub is : isStation p ≡ true
+  pub neat : p ≡ plainStation (stationOf p)
   pub sound : T (sound standard (stationOf p))
 
 -- refused by n: the form bit for bit, and none left
@@ -59,12 +62,12 @@ pub record Stopped (n : ℕ) (p : PlainStation) (r : StationAnswered) : Type 0 w
   pub station : r .station ≡ p
   pub left : r .«left_len» ≡ 0
 
--- as m says: its code, the station and those that left
+-- as m says: its code, the station and those that left; places beyond their count are free
 pub record Went (m : Model.Outcome) (r : StationAnswered) : Type 0 where
   pub refused : r .refused ≡ not (taken (m .answer .code))
   pub code : r .code ≡ number (m .answer .code)
   pub station : view (stationOf (r .station)) ≡ m .station
-  pub left : departures (r .left) (r .«left_len») ≡ m .answer .departures
+  pub left : take (r .«left_len») (r .left) ≡ map plainDeparture (m .answer .departures)
 
 -- ---- what a call, handed p, answers where the refusal is n; where there is none, what m says
 pub record CallAnswers (n : ℕ) (p : PlainStation) (m : Model.Outcome) (r : StationAnswered) : Type 0 where

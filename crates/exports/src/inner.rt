@@ -16,8 +16,8 @@ ghost use Rattle.bank_model.specs.Steps as Bank;
 ghost use Rattle.bank.specs.View as Banked;
 ghost use Rattle.bank.specs.Parts.{Countable, Sturdy};
 ghost use Rattle.bank.specs.Switching.{Chosen};
-ghost use Rattle.plain.specs.Plain.{bankOf, departures};
-ghost use Rattle.exports.specs.Bank.{Held, changedTo, takenTo};
+ghost use Rattle.plain.specs.Plain.{bankOf, plainBank};
+ghost use Rattle.exports.specs.Bank.{ChangedTo, Held, Neat, takenTo};
 
 // A bank after a call, and those that left it in the call.
 #[repr(C)]
@@ -65,7 +65,7 @@ pub extern "C" fn hullathan_inner_bank_on_mark(
     requires { ⌜ Held b × Countable (bankOf b) ⌝ }
     requires { ⌜ T (sound standard p) ⌝ }
     requires { ⌜ T (duration «dur_ms») ⌝ }
-    ensures { λ r. ⌜ (changedTo r ≡ Bank.onMark standard (Banked.view (bankOf b)) (view p) «dur_ms» live) × Held (r .bank) ⌝ }
+    ensures { λ r. ⌜ ChangedTo (Bank.onMark standard (Banked.view (bankOf b)) (view p) «dur_ms» live) r × (Held (r .bank) × Neat (r .bank)) ⌝ }
 {
     let u = bank_of(b);
     let c = u.bank;
@@ -91,7 +91,7 @@ pub extern "C" fn hullathan_inner_bank_on_gap(
     requires { ⌜ Held b × Countable (bankOf b) ⌝ }
     requires { ⌜ T (sound standard p) ⌝ }
     requires { ⌜ T (duration «dur_ms») ⌝ }
-    ensures { λ r. ⌜ (Banked.view (bankOf r) ≡ Bank.onGap standard (Banked.view (bankOf b)) (view p) «dur_ms») × Held r ⌝ }
+    ensures { λ r. ⌜ (Banked.view (bankOf r) ≡ Bank.onGap standard (Banked.view (bankOf b)) (view p) «dur_ms») × (Held r × Neat r) ⌝ }
 {
     let u = bank_of(b);
     let c = u.bank;
@@ -107,7 +107,7 @@ pub extern "C" fn hullathan_inner_bank_take_switch(
 ) -> BankTaken
     requires { ⌜ Held b × Chosen (bankOf b) p ⌝ }
     requires { ⌜ T (sound standard p) ⌝ }
-    ensures { λ r. ⌜ (takenTo r ≡ Bank.takeSwitch (Banked.view (bankOf b)) (view p) serial) × (Held (r .bank) × T (sound standard (r .primary))) ⌝ }
+    ensures { λ r. ⌜ (takenTo r ≡ Bank.takeSwitch (Banked.view (bankOf b)) (view p) serial) × (Held (r .bank) × Neat (r .bank) × T (sound standard (r .primary))) ⌝ }
 {
     let u = bank_of(b);
     let c = u.bank;
@@ -123,10 +123,10 @@ pub extern "C" fn hullathan_inner_bank_take_switch(
     }
 }
 
-// Hands back what it was handed, over the plain form: what the passing of a bank costs.
+// Hands back the plain form of the bank that it was handed in plain form: what the passing of a bank costs.
 #[no_mangle]
 pub extern "C" fn hullathan_inner_bank_same(b: PlainBank) -> PlainBank
-    ensures { λ r. ⌜ bankOf r ≡ bankOf b ⌝ }
+    ensures { λ r. ⌜ r ≡ plainBank (bankOf b) ⌝ }
 {
     let u = bank_of(b);
     let c = u.bank;

@@ -8,7 +8,7 @@ use native.Mathlib.Nat.{mod-lt, div-add-mod', div-lt-iff-lt-mul, pow-zero, pow-s
 use native.Mathlib.Omega.{arith}
 use lib.Dec.{ltb}
 use lib.ListN.{length, getD, List·getD-append}
-use borrow.Author.Tests.{lt-ltb, le-ltb, ne-eqb}
+use borrow.Author.Tests.{le-leb, lt-leb, lt-ltb, le-ltb, ne-eqb}
 use Rattle.line_out.specs.Shown.{glyph, digits, tens}
 use Rattle.line_out.specs.Form.{occurs, figure, value}
 use Rattle.line_out.proofs.Digits.{ten?, tenth, tens-one, tens-more, tens-least}
@@ -19,15 +19,15 @@ use Rattle.line_out.proofs.Digits.{ten?, tenth, tens-one, tens-more, te
 pub glyph-least : (d : ℕ) → 48 ≤ glyph d
 glyph-least d = of (ltb d 10)
   where
-    of : (t : Bool) → 48 ≤ cond t (48 + d) (55 + d)
+    of : (t : Bool) → 48 ≤ cond t (48 + d) (65 + (d - 10))
     of true = omega arith
     of false = omega arith
 
 -- stands for itself
 pub glyph-figure : (d : ℕ) → d < 16 → figure (glyph d) ≡ d
 glyph-figure d h = ⊎-elim
-    (λ s. rw (lt-ltb d 10 s, lt-ltb (48 + d) 58 (omega arith)) (omega arith))
-    (λ s. rw (le-ltb d 10 s, le-ltb (55 + d) 58 (omega arith)) (omega arith))
+    (λ s. rw (lt-ltb d 10 s, le-leb (48 + d) 57 (omega arith)) (omega arith))
+    (λ s. rw (le-ltb d 10 s, lt-leb (65 + (d - 10)) 57 (omega arith)) (omega arith))
     (ten? d)
 
 -- ---- read from the left

@@ -44,10 +44,10 @@ worked =
     ∷ shows (code "M") Done 0 0 0 0 "M\t0\t00000000\t00000000\t0\t0\n"
     ∷ shows (code "F") BecameReady 0x4248_0000 0x4316_0000 0 0 "F\t1\t42480000\t43160000\t0\t0\n"
     ∷ shows (code "X") Nothing 0x4248_0000 0x4316_0000 0 0 "X\t3\t42480000\t43160000\t0\t0\n"
-    -- a switch
-    ∷ shows (code "X") Switched 0x4170_0000 0x41dc_cccd 10 7 "X\t2\t41700000\t41DCCCCD\t10\t7\n"
-    -- a bad line
-    ∷ shows (code "?") (Refused 12) 0x429f_abcd 0x43fe_dcba 4294967294 0 "?\tR12\t429FABCD\t43FEDCBA\t4294967294\t0\n"
-    -- the longest
+    -- a switch, with 60 and 180 ms
+    ∷ shows (code "X") Switched 0x4270_0000 0x4334_0000 10 7 "X\t2\t42700000\t43340000\t10\t7\n"
+    -- a bad line, with 79.8 and 475.6 ms
+    ∷ shows (code "?") (Refused 12) 0x429f_abcd 0x43ed_cbaf 4294967294 0 "?\tR12\t429FABCD\t43EDCBAF\t4294967294\t0\n"
+    -- the longest that can be written: no station has such numbers
     ∷ shows (code "M") (Refused 255) 0 0xffff_ffff 18446744073709551615 10000000000000000000 "M\tR255\t00000000\tFFFFFFFF\t18446744073709551615\t10000000000000000000\n"
     ∷ []

@@ -3,7 +3,8 @@ use mathlib.Core.Path.{_≡_}
 use mathlib.Core.Bool.{cond}
 use mathlib.Core.List.{List, [], _∷_}
 use Prim.Native.Nat.{ℕ, _+_, _-_, _*_, _^_, _≤_, _<_}
-use lib.Dec.{ltb, eqb}
+use Prim.Native.Char.{code}
+use lib.Dec.{leb, eqb}
 use lib.ListN.{length, getD}
 use Rattle.line_out.specs.declared.Shown.{Shown}
 use Rattle.line_out.specs.Shown.{tab, newline, hexadecimal, decimal, line}
@@ -24,7 +25,7 @@ pub record Formed (s : Shown) : Type 0 where
 
 -- what a digit stands for
 abbrev pub figure : ℕ → ℕ
-figure d = cond (ltb d 58) (d - 48) (d - 55)
+figure d = cond (leb d (code "9")) (d - code "0") (10 + (d - code "A"))
 
 -- what digits to the base b say, read from the left after digits that say v
 unfoldable pub value : ℕ → ℕ → List ℕ → ℕ
@@ -35,4 +36,4 @@ value b v (d ∷ l) = value b (v * b + figure d) l
 pub record Readable : Type 0 where
   pub hexadecimals : (n : ℕ) → n < 2 ^ 32 → value 16 0 (hexadecimal n) ≡ n
   pub decimals : (n : ℕ) → n < 2 ^ 64 → value 10 0 (decimal n) ≡ n
-  pub unpadded : (n : ℕ) → 0 < n → n < 2 ^ 64 → getD (decimal n) 0 0 ≡ 48 → ⊥
+  pub unpadded : (n : ℕ) → 0 < n → n < 2 ^ 64 → getD (decimal n) 0 0 ≡ code "0" → ⊥

@@ -1,7 +1,8 @@
 -- An output line (document 01, "Journal program"). Definitions only.
 use mathlib.Core.Bool.{cond}
 use mathlib.Core.List.{List, [], _∷_, _++_}
-use Prim.Native.Nat.{ℕ, zero, suc, _+_, _/_, _%_}
+use Prim.Native.Nat.{ℕ, zero, suc, _+_, _-_, _/_, _%_}
+use Prim.Native.Char.{code}
 use lib.Dec.{ltb}
 use Rattle.station_model.specs.declared.Code.{Code}
 use Rattle.station_model.specs.Station.{number, taken}
@@ -17,7 +18,7 @@ newline = 10
 
 -- a digit: `0` to `9`, then the capitals `A` to `F`
 abbrev pub glyph : ℕ → ℕ
-glyph d = cond (ltb d 10) (48 + d) (55 + d)
+glyph d = cond (ltb d 10) (code "0" + d) (code "A" + (d - 10))
 
 -- ---- numbers
 
@@ -41,9 +42,9 @@ decimal n = tens 20 n
 
 -- ---- the line
 
--- "Codes: 0 done, 1 an unready primary became ready .., 2 switched, 3 nothing to do .., R and the number if refused"; 82 is `R`
+-- "Codes: 0 done, 1 an unready primary became ready .., 2 switched, 3 nothing to do .., R and the number if refused"
 abbrev pub coded : Code → List ℕ
-coded c = cond (taken c) [] (82 ∷ []) ++ decimal (number c)
+coded c = cond (taken c) [] (code "R" ∷ []) ++ decimal (number c)
 
 -- "fields parted by tabs"
 abbrev pub parted : List (List ℕ) → List ℕ

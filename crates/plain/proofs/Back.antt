@@ -8,13 +8,12 @@ use lib.ListN.{take}
 use Rattle.marks.specs.Lists.{all}
 use Rattle.bank_model.specs.declared.Origin.{Origin}
 use Rattle.bank_model.specs.declared.Origin.the-variants.{Bootstrap, Streak, FormerPrimary}
-use Rattle.bank_model.specs.declared.Cause.{Cause}
-use Rattle.bank_model.specs.declared.Cause.the-variants.{Twin, Outscored, Aged, Replaced, Cleared}
 use Rattle.bank_model.specs.declared.Departure.{Departure}
 use Rattle.rival.specs.declared.TimingHypothesis.{TimingHypothesis}
 use Rattle.bank.specs.declared.TimingBank.{TimingBank}
 use Rattle.bank.specs.Parts.{restocked}
-use Rattle.plain.specs.Plain.{originCode, retained, originOf, causeCode, causeOf, plainDeparture, departureOf, departures, plainHyp, hypOf, plainBank, bankOf, named, isBank}
+use Rattle.plain.specs.declared.PlainDeparture.{PlainDeparture}
+use Rattle.plain.specs.Plain.{originCode, retained, originOf, plainDeparture, plainHyp, hypOf, plainBank, bankOf, named, isBank}
 
 origin-back : (o : Origin) → originOf (originCode o) (retained o) ≡ o
 origin-back Bootstrap = refl
@@ -65,22 +64,8 @@ pub bank-named : (b : TimingBank) → isBank (plainBank b) ≡ true
 unfolding isBank
 bank-named b = all-named (b .«challengers_len») (b .challengers)
 
-cause-back : (c : Cause) → causeOf (causeCode c) ≡ c
-cause-back Twin = refl
-cause-back Outscored = refl
-cause-back Aged = refl
-cause-back Replaced = refl
-cause-back Cleared = refl
-
-gone : ℕ → Cause → Departure
-gone n c = record { serial = n; cause = c }
-
-departure-back : (d : Departure) → departureOf (plainDeparture d) ≡ d
-unfolding gone
-departure-back d = ap (gone (d .serial)) (cause-back (d .cause))
-
--- those that left come back too
-pub departures-back : (l : List Departure) (n : ℕ) → departures (map plainDeparture l) n ≡ take n l
-departures-back l zero = refl
-departures-back [] (suc n) = refl
-departures-back (d ∷ ds) (suc n) = ap (λ (e : Departure). e ∷ departures (map plainDeparture ds) n) (departure-back d) ∙ ap (λ (r : List Departure). d ∷ r) (departures-back ds n)
+-- the first of those that left
+pub first-left : (n : ℕ) (l : List Departure) → take n (map plainDeparture l) ≡ map plainDeparture (take n l)
+first-left zero l = refl
+first-left (suc n) [] = refl
+first-left (suc n) (d ∷ ds) = ap (λ (r : List PlainDeparture). plainDeparture d ∷ r) (first-left n ds)

@@ -1,6 +1,6 @@
 -- What the plain form of a bank means: numbers for where a hypothesis came from and why it left. Definitions only.
 use mathlib.Core.Bool.{Bool, cond}
-use mathlib.Core.List.{List, map}
+use mathlib.Core.List.{map}
 use Prim.Native.Nat.{ℕ}
 use lib.Dec.{eqb, leb}
 use lib.ListN.{take}
@@ -32,17 +32,13 @@ retained (FormerPrimary n) = n
 abbrev pub originOf : ℕ → ℕ → Origin
 originOf n marks = cond (eqb n 1) Streak (cond (eqb n 2) (FormerPrimary marks) Bootstrap)
 
--- "twin or else outscored or else aged at `prune`, replaced at `spawn`, cleared at clear or seed": 0 to 4
+-- "twin or else outscored (12 or more behind) or else aged (64 marks) at `prune`, replaced at `spawn`, cleared at clear or seed": 0 to 4
 abbrev pub causeCode : Cause → ℕ
 causeCode Twin = 0
 causeCode Outscored = 1
 causeCode Aged = 2
 causeCode Replaced = 3
 causeCode Cleared = 4
-
--- the cause of a number
-abbrev pub causeOf : ℕ → Cause
-causeOf n = cond (eqb n 0) Twin (cond (eqb n 1) Outscored (cond (eqb n 2) Aged (cond (eqb n 3) Replaced Cleared)))
 
 abbrev pub plainHyp : TimingHypothesis → PlainHypothesis
 plainHyp h = record {
@@ -133,10 +129,3 @@ isBank p = all named (take (p .«challengers_len») (p .challengers))
 
 abbrev pub plainDeparture : Departure → PlainDeparture
 plainDeparture d = record { serial = d .serial; cause = causeCode (d .cause) }
-
-abbrev pub departureOf : PlainDeparture → Departure
-departureOf d = record { serial = d .serial; cause = causeOf (d .cause) }
-
--- those that left, of an array and a count
-abbrev pub departures : List PlainDeparture → ℕ → List Departure
-departures l n = map departureOf (take n l)

@@ -57,7 +57,8 @@ stationOf r = r .station
 abbrev pub viewed : Ran Station Outcome → Call
 viewed c = record { event = c .event; answer = answered (c .returned .answer); before = view (c .before); after = view (c .returned .station) }
 
--- after every list of calls, each on the station that the one before handed back, the first on this one: demand 3, and no station on the way is one that refusal 1 is about
+-- after every list of calls, each on the station that the one before handed back, the first on this one: demand 3, and the station is `sound`. (That no switch is refused
+-- by 1 follows from clause 1: `defined` of `Watch`.)
 pub record Watched (k : Settings) (width : ℕ) (switching : Bool) (first : Station) : Type 0 where
   pub holds : (calls : List (Ran Station Outcome)) (now : Station) → RanFrom stationOf (Called k) first calls now → Watch k width switching (map viewed calls) (view now)
   pub stays : (calls : List (Ran Station Outcome)) (now : Station) → RanFrom stationOf (Called k) first calls now → T (sound k now)

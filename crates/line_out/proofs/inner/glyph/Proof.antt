@@ -1,4 +1,5 @@
 -- `line_out::inner::glyph` meets its contract. Assumes nothing.
+use native.Mathlib.Omega.{arith}
 use borrow.Author.Needs.{needs}
 use borrow.Author.Tests.{lt-ltb, le-ltb}
 use Rattle.line_out.proofs.inner.glyph.Statement.{statement}
@@ -20,7 +21,7 @@ returns : tie.Need-returns
 returns c = rw (lt-ltb _ _ (c .if1 .taken))
 
 returns-2 : tie.Need-returns-2
-returns-2 c = rw (le-ltb _ _ (c .if1 .left))
+returns-2 c = rw (le-ltb _ _ (c .if1 .left)) (omega arith)
 
 pub glyph-spec : {M : Type 1} → statement M
 glyph-spec =
