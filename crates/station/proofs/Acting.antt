@@ -1,6 +1,8 @@
 -- What each event comes to, from what the calls below it say. Assumes nothing.
-use mathlib.Core.Path.{_≡_, ap, sym, _∙_, subst}
+use mathlib.Core.Path.{_≡_, refl, ap, sym, _∙_, subst}
 use mathlib.Core.Bool.{Bool, true, false, cond}
+use mathlib.Core.List.{List, []}
+use mathlib.Core.Option.{Option, none, some}
 use Prim.Native.Nat.{ℕ, _+_, _≤_}
 use native.Mathlib.Omega.{arith}
 use lib.Dec.{T}
@@ -14,7 +16,8 @@ use Rattle.tracker.specs.Sound as Tracking
 use Rattle.tracker.specs.Steps.{elementGap, seeded, canBegin, bootstrapped}
 use Rattle.tracker.specs.Steps as Steps
 use Rattle.bank_model.specs.Model.{Bank, Told, stay}
-use Rattle.bank_model.specs.Steps.{Taken, onMark, onGap, clear}
+use Rattle.bank_model.specs.declared.Departure.{Departure}
+use Rattle.bank_model.specs.Steps.{Taken, on, onMark, onGap, clear, untaken, takenOf, takeSwitch}
 use Rattle.bank.specs.declared.Changed.{Changed}
 use Rattle.bank.specs.View.{told}
 use Rattle.bank.specs.Parts.{Sturdy}
@@ -24,10 +27,12 @@ use Rattle.station_model.specs.declared.Code.the-variants.{Done, BecameReady, S
 use Rattle.station_model.specs.declared.Counts.{Counts}
 use Rattle.station_model.specs.Station.{Act, ready, act, readyAct, learntAct, liveAct, gapAct, finishAct, seedAct, switchAct, acted, accepted, tallied}
 use Rattle.station_model.specs.Station as Model
+use Rattle.station_model.proofs.Lists.{by-cond}
 use Rattle.station.specs.declared.Station.{Station}
 use Rattle.station.specs.declared.Outcome.{Outcome}
 use Rattle.station.specs.View.{view}
 use Rattle.station.specs.Parts.{AtMost, Allowed, Solid, Open, Stands}
+use Rattle.station.proofs.Tallying.{tallied-none}
 
 -- ---- an accepted call
 
@@ -56,6 +61,25 @@ module _ (s : Station) (p : SpeedTracker) (serial : ℕ) (t : Changed) (code : C
 
   pub accepts : (n : Counts) → T (Tracking.sound standard p) → Sturdy (t .bank) × (t .«left_len» ≤ 9) → n ≡ tallied (s .counts) (take (t .«left_len») (t .left)) → Stands (made n) (accepted (view s) asked)
   accepts n f k e = record { is = ap says e; primary = f; bank = k .0; few = k .1 }
+
+-- nothing changes but the count
+module _ (s : Station) (code : Code) (left : List Departure) where
+  abbrev passed : Outcome
+  passed = record {
+    station = record { primary = s .primary; serial = s .serial; bank = s .bank; counts = s .counts; accepted = s .accepted + 1 };
+    answer = record { code = code; left = left; «left_len» = 0 };
+  }
+
+  pub passes : Solid s → Stands passed (accepted (view s) (act (view s) (view s .primary) (stay (view s .bank)) code))
+  passes k = record {
+    is = ap (λ (n : Counts). record {
+      station = record { primary = view s .primary; serial = s .serial; bank = view s .bank; counts = n; accepted = s .accepted + 1 };
+      answer = record { code = code; departures = [] };
+    }) (sym (tallied-none (s .counts)));
+    primary = k .primary;
+    bank = k .bank;
+    few = omega arith;
+  }
 
 -- ---- what was done is what the definitions say
 
@@ -115,6 +139,17 @@ pub switch-is : (k w : Taken) (t : Told) (b : Bool) → k ≡ w → t ≡ stay (
 switch-is k w t b e f r =
     ap (λ (x : Told). record { primary = k .primary; serial = k .serial; told = x; code = cond b Switched Nothing }) f
     ∙ sym (ap (λ (x : Bool). record { primary = k .primary; serial = k .serial; told = stay (k .bank); code = cond x Switched Nothing }) r) ∙ ap switchAct e
+
+-- where nothing is pending, nothing is done
+none-taken : (b : Bank) (p : Tracker) (n : ℕ) (o : Option ℕ) → o ≡ none → takenOf b p n o ≡ untaken b p n
+none-taken b p n none e = refl
+none-taken b p n (some i) e = cc
+
+pub switch-not : (m : Model.Station) (t : Told) → m .bank .pending ≡ none → t ≡ stay (m .bank) → act m (m .primary) t Nothing ≡ switchAct (takeSwitch (m .bank) (m .primary) (m .serial))
+unfolding takeSwitch
+switch-not m t e f =
+    as-told standard m (m .primary) t (stay (m .bank)) Nothing f
+    ∙ ap switchAct (sym (by-cond (λ (k : Taken). k ≡ untaken (m .bank) (m .primary) (m .serial)) (on (m .bank)) (λ x. none-taken (m .bank) (m .primary) (m .serial) (m .bank .pending) e) (λ x. refl)))
 
 -- ---- the event that a call was given
 module _ (s : Station) {e f : Event} (q : e ≡ f) where

@@ -35,7 +35,7 @@ module _ (c : Counts) where
   more-cleared = λ i. record { twins = same (c .twins) i; outscored = same (c .outscored) i; aged = same (c .aged) i; replaced = same (c .replaced) i; cleared = c .cleared + 1 }
 
 -- none left
-tallied-none : (c : Counts) → tallied c [] ≡ c
+pub tallied-none : (c : Counts) → tallied c [] ≡ c
 unfolding ofCause
 tallied-none c = λ i. record {
   twins = add-none (c .twins) i;

@@ -20,7 +20,7 @@ ghost use Rattle.bank_model.specs.Model.{stay};
 ghost use Rattle.bank.specs.View.{told};
 ghost use Rattle.bank.specs.View as Banked;
 ghost use Rattle.bank.specs.Parts.{Left, Sturdy};
-ghost use Rattle.station_model.specs.Station.{accepted, tallied};
+ghost use Rattle.station_model.specs.Station.{accepted, act, tallied};
 ghost use Rattle.station.specs.View.{view};
 ghost use Rattle.station.specs.Parts.{AtMost, Open, Solid, Stands, oneMore};
 
@@ -123,4 +123,20 @@ pub(crate) fn accept(
         left_len: n,
     };
     Outcome { station, answer }
+}
+
+// A call is accepted that changes nothing else.
+pub(crate) fn pass(s: Station, code: Code) -> Outcome
+    requires { ⌜ Solid s × Open s ⌝ }
+    ensures { λ r. ⌜ Stands r (accepted (view s) (act (view s) (view s .primary) (stay (view s .bank)) code)) ⌝ }
+{
+    let left = nobody();
+    let answer = Answer {
+        code,
+        left,
+        left_len: 0,
+    };
+    let mut t = s;
+    t.accepted = s.accepted + 1;
+    Outcome { station: t, answer }
 }

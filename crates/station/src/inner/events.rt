@@ -2,6 +2,7 @@
 use crate::Outcome;
 use crate::Station;
 use crate::inner::accept::accept;
+use crate::inner::accept::pass;
 use crate::inner::accept::stay;
 use bank::inner::clear::clear;
 use bank::inner::gap::on_gap;
@@ -94,18 +95,16 @@ pub(crate) fn gap(s: Station, d: f32) -> Outcome
     requires { ⌜ T (duration d) ⌝ }
     ensures { λ r. ⌜ Stands r (accepted (view s) (acted standard (view s) (Gap d))) ⌝ }
 {
-    let p = s.primary;
-    let b = s.bank;
-    let was = p.pair;
-    if was.ready {
+    if s.primary.pair.ready {
+        let p = s.primary;
+        let b = s.bank;
         let c = on_gap(b, p, d);
         let unit = dit_estimate(p);
         let q = hear_one(p, unit, d);
         let t = stay(c);
         return accept(s, q, s.serial, t, Code::Done);
     }
-    let t = stay(b);
-    accept(s, p, s.serial, t, Code::Done)
+    pass(s, Code::Done)
 }
 
 // A finish.
@@ -171,6 +170,10 @@ pub(crate) fn switch(s: Station) -> Outcome
 {
     let p = s.primary;
     let b = s.bank;
+    if !b.has_pending {
+        let t = stay(b);
+        return accept(s, p, s.serial, t, Code::Nothing);
+    }
     let k = take_switch(b, p, s.serial);
     let q = k.primary;
     let c = k.bank;
