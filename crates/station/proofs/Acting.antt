@@ -1,6 +1,6 @@
 -- What each event comes to, from what the calls below it say. Assumes nothing.
 use mathlib.Core.Path.{_≡_, refl, ap, sym, _∙_, subst}
-use mathlib.Core.Bool.{Bool, true, false, cond}
+use mathlib.Core.Bool.{Bool, true, false, cond, not, false≢true}
 use mathlib.Core.List.{List, []}
 use mathlib.Core.Option.{Option, none, some}
 use Prim.Native.Nat.{ℕ, _+_, _≤_}
@@ -19,7 +19,7 @@ use Rattle.bank_model.specs.Model.{Bank, Told, stay}
 use Rattle.bank_model.specs.declared.Departure.{Departure}
 use Rattle.bank_model.specs.Steps.{Taken, on, onMark, onGap, clear, untaken, takenOf, takeSwitch}
 use Rattle.bank.specs.declared.Changed.{Changed}
-use Rattle.bank.specs.View.{told}
+use Rattle.bank.specs.View.{told, given}
 use Rattle.bank.specs.Parts.{Sturdy}
 use Rattle.station_model.specs.declared.Event.{Event}
 use Rattle.station_model.specs.declared.Code.{Code}
@@ -141,6 +141,10 @@ switch-is k w t b e f r =
     ∙ sym (ap (λ (x : Bool). record { primary = k .primary; serial = k .serial; told = stay (k .bank); code = cond x Switched Nothing }) r) ∙ ap switchAct e
 
 -- where nothing is pending, nothing is done
+pub none-given : (has : Bool) (i : ℕ) → not has ≡ true → given has i ≡ none
+none-given true i e = absurd (false≢true e)
+none-given false i e = refl
+
 none-taken : (b : Bank) (p : Tracker) (n : ℕ) (o : Option ℕ) → o ≡ none → takenOf b p n o ≡ untaken b p n
 none-taken b p n none e = refl
 none-taken b p n (some i) e = cc
