@@ -584,6 +584,21 @@ fn station_watch<'a>(marks: &'a [f32], gaps: &'a [f32], width: usize) -> Loop<'a
     })
 }
 
+/// The same by the inner call, over C once.
+#[cfg(manta)]
+fn inner_watch<'a>(marks: &[f32], gaps: &[f32], width: usize) -> Loop<'a> {
+    use crate::hullathan::station as ours;
+    use crate::layers::station::{GAP, MARK, SWITCH};
+    let each = marks.iter().zip(gaps);
+    let kinds = [MARK, GAP, SWITCH].repeat(marks.len());
+    let values: Vec<f32> = each.flat_map(|(&m, &g)| [m, g, 0.0]).collect();
+    Box::new(move || {
+        let s = ours::fresh(width, true).station;
+        // Safety: a fresh station, and three kinds and three numbers for each mark
+        black_box(unsafe { ours::inner_watch(s, black_box(&kinds), black_box(&values)) });
+    })
+}
+
 /// A station passed to C and back as often: a kind that no event has.
 #[cfg(manta)]
 fn station_passed(marks: &[f32], width: usize) -> Loop<'_> {
@@ -602,6 +617,7 @@ fn station_passed(marks: &[f32], width: usize) -> Loop<'_> {
 pub fn station() {
     let names = [
         "manta's tracker and bank",
+        "the inner calls",
         "the public calls, over C",
         "a station passed to C and back",
     ];
@@ -614,6 +630,7 @@ pub fn station() {
         for width in [2, 8] {
             let loops = vec![
                 rust_watch(&marks, &gaps, width),
+                inner_watch(&marks, &gaps, width),
                 station_watch(&marks, &gaps, width),
                 station_passed(&marks, width),
             ];

@@ -148,8 +148,6 @@ module _ (b c : TimingBank) (p : Tracker) (lo hi d : Float) (live : Bool) (ec : 
       ∙ ap (λ (z : Bool). by z (scored standard (view b) p d live)) (sym e)
 
 -- scored, pruned and chosen
-pub mark-told : (b : Bank) (p : Tracker) (lo hi d : Float) (live : Bool) (t u : Changed) (e : TimingBank) → lo ≡ lnDit p → hi ≡ lnDah p → told t ≡ markedTold standard b p d live → told u ≡ andThen (told t) (prunedAt standard lo hi)
-    → view e ≡ qualified standard (view (u .bank)) → told (record { bank = e; left = u .left; «left_len» = u .«left_len» }) ≡ heardMark standard b p d live
-mark-told b p lo hi d live t u e el eh et eu ee =
-    ap (λ (m : Bank). record { bank = m; left = take (u .«left_len») (u .left) }) ee
-    ∙ ap (leading standard) (eu ∙ ap (λ (m : Told). andThen m (prunedAt standard lo hi)) et ∙ ap (λ (z : Float). andThen (markedTold standard b p d live) (prunedAt standard z hi)) el ∙ ap (λ (z : Float). andThen (markedTold standard b p d live) (prunedAt standard (lnDit p) z)) eh)
+pub mark-told : (b : Bank) (p : Tracker) (lo hi d : Float) (live : Bool) (t : Changed) (u : Told) → lo ≡ lnDit p → hi ≡ lnDah p → told t ≡ markedTold standard b p d live → u ≡ leading standard (andThen (told t) (prunedAt standard lo hi)) → u ≡ heardMark standard b p d live
+mark-told b p lo hi d live t u el eh et eu =
+    eu ∙ ap (leading standard) (ap (λ (m : Told). andThen m (prunedAt standard lo hi)) et ∙ ap (λ (z : Float). andThen (markedTold standard b p d live) (prunedAt standard z hi)) el ∙ ap (λ (z : Float). andThen (markedTold standard b p d live) (prunedAt standard (lnDit p) z)) eh)

@@ -1,6 +1,6 @@
--- A loop that keeps the challengers that no cause sends away, in order, and notes the others: its invariant, where it begins, both turns, and where it ends. Assumes nothing.
+-- A loop that keeps the challengers that no cause sends away, in order, each with its lead, notes the others, and finds the choice: its invariant, where it begins, both turns, and where it ends. Assumes nothing.
 use mathlib.Core.Path.{_≡_, refl, ap, sym, _∙_, subst}
-use mathlib.Core.Bool.{Bool, true, false, true≢false, false≢true}
+use mathlib.Core.Bool.{Bool, true, false, cond, true≢false, false≢true}
 use mathlib.Core.List.{List, [], _∷_, _++_, map}
 use mathlib.Core.Option.{Option, none, some}
 use Prim.Native.Nat.{ℕ, zero, suc, _+_, _≤_, _<_}
@@ -11,18 +11,21 @@ use lib.ListN.{length, take, drop, getD, set, length-set}
 use lib.Seq.{take-suc, drop-set-lt, getD-take, take-all, drop-drop, getD-drop}
 use Rattle.ranges.specs.Settings.{standard}
 use lib.Ieee.{Float}
+use Rattle.bank_model.specs.declared.Best.{Best}
+use Rattle.bank_model.specs.declared.Best.the-variants.{Unfound, Found}
 use Rattle.bank_model.specs.declared.Cause.{Cause}
 use Rattle.bank_model.specs.declared.Cause.the-variants.{Cleared}
 use Rattle.bank_model.specs.declared.Departure.{Departure}
 use Rattle.bank_model.specs.Model.{Hyp, Bank, Told, andThen, withChallengers}
-use Rattle.bank_model.specs.Steps.{causeAt, stayIf, leaveIf, staying, leaving, prunedAt, goneCleared}
+use Rattle.bank_model.specs.Steps.{Before, place, higher, highestFrom, causeAt, stayIf, leaveIf, staying, leaving, prunedAt, led, qualifies, qualified, leading, goneCleared}
+use Rattle.bank_model.proofs.Places.{highest-before}
 use Rattle.rival.specs.declared.TimingHypothesis.{TimingHypothesis}
 use Rattle.bank.specs.declared.TimingBank.{TimingBank}
 use Rattle.bank.specs.declared.Changed.{Changed}
 use Rattle.rival.specs.View.{viewHyp}
-use Rattle.bank.specs.View.{viewAll, view, told}
+use Rattle.bank.specs.View.{given, viewAll, view, told}
 use Rattle.rival.specs.Parts.{isNone, Fit}
-use Rattle.bank.specs.Parts.{All, widest, Crew, restocked, Steady}
+use Rattle.bank.specs.Parts.{All, widest, Crew, restocked, Steady, Sturdy, Left, isFound, placeOr}
 use Rattle.bank.proofs.Lists.{all-at, all-append, all-none, put-at-end, append-nil, map-snoc, view-length, view-at}
 use Rattle.bank.proofs.Stock.{member, room}
 
@@ -71,14 +74,28 @@ append-assoc : {A : Type 0} (a b c : List A) → (a ++ b) ++ c ≡ a ++ (b ++ c)
 append-assoc [] b c = refl
 append-assoc {A = A} (x ∷ a) b c = ap (λ (r : List A). x ∷ r) (append-assoc a b c)
 
--- ---- the loop: i were looked at, w of them stay, and g left, g₀ of them before
-module _ (f : Hyp → Option Cause) (b : TimingBank) (gone₀ : List Departure) (g₀ : ℕ) where
-  pub record Sifting (c : TimingBank) (gone : List Departure) (g w i : ℕ) : Type 0 where
+-- a search that goes on by one
+highest-snoc : (q : Hyp → Bool) (i : ℕ) (acc : Best) (l : List Hyp) (x : Hyp) → highestFrom q i acc (l ++ (x ∷ [])) ≡ cond (q x) (higher (i + length l) (x .score) (highestFrom q i acc l)) (highestFrom q i acc l)
+unfolding highestFrom
+highest-snoc q i acc [] x = ap (λ (n : ℕ). cond (q x) (higher n (x .score) acc) acc) (sym (add-zero i))
+highest-snoc q i acc (y ∷ l) x =
+    let a : Best = cond (q y) (higher i (y .score) acc) acc in
+    let e : suc i + length l ≡ i + suc (length l) = omega arith in
+    highest-snoc q (suc i) a l x ∙ ap (λ (n : ℕ). cond (q x) (higher n (x .score) (highestFrom q (suc i) a l)) (highestFrom q (suc i) a l)) e
+
+none-found : (q : Hyp → Bool) → Unfound ≡ highestFrom q 0 Unfound []
+unfolding highestFrom
+none-found q = refl
+
+-- ---- the loop: i were looked at, w of them stay, each sent through u, and g left, g₀ of them before; best is the choice among those that q picks
+module _ (f : Hyp → Option Cause) (u : Hyp → Hyp) (q : Hyp → Bool) (b : TimingBank) (gone₀ : List Departure) (g₀ : ℕ) where
+  pub record Sifting (c : TimingBank) (gone : List Departure) (g : ℕ) (best : Best) (w i : ℕ) : Type 0 where
     pub upto : i ≤ b .«challengers_len»
     pub sum : g + w ≡ g₀ + i
     pub behind : w ≤ i
     pub same : c ≡ restocked b (c .challengers)
-    pub front : viewAll w (c .challengers) ≡ staying f (take i (view b .challengers))
+    pub front : viewAll w (c .challengers) ≡ map u (staying f (take i (view b .challengers)))
+    pub choice : best ≡ highestFrom q 0 Unfound (viewAll w (c .challengers))
     pub rest : drop i (c .challengers) ≡ drop i (b .challengers)
     pub left : take g gone ≡ take g₀ gone₀ ++ leaving f (take i (view b .challengers))
     pub long : length (c .challengers) ≡ widest
@@ -87,13 +104,14 @@ module _ (f : Hyp → Option Cause) (b : TimingBank) (gone₀ : List Departure) 
     pub fine : All Fit (take w (c .challengers))
     pub steady : Steady b
 
-  pub sift-begins : Steady b → g₀ ≤ 1 → length gone₀ ≡ 9 → Sifting b gone₀ g₀ 0 0
+  pub sift-begins : Steady b → g₀ ≤ 1 → length gone₀ ≡ 9 → Sifting b gone₀ g₀ Unfound 0 0
   sift-begins s k r = record {
     upto = omega arith;
     sum = refl;
     behind = omega arith;
     same = refl;
-    front = sym (none-stay f);
+    front = sym (ap (map u) (none-stay f));
+    choice = none-found q;
     rest = refl;
     left = sym (ap (λ (l : List Departure). take g₀ gone₀ ++ l) (none-leave f) ∙ append-nil (take g₀ gone₀));
     long = s .crew .long;
@@ -103,7 +121,7 @@ module _ (f : Hyp → Option Cause) (b : TimingBank) (gone₀ : List Departure) 
     steady = s;
   }
 
-  module _ (c : TimingBank) (gone : List Departure) (g w i : ℕ) (z : TimingHypothesis) (k : Sifting c gone g w i) (h : i < b .«challengers_len») where
+  module _ (c : TimingBank) (gone : List Departure) (g : ℕ) (best : Best) (w i : ℕ) (z : TimingHypothesis) (k : Sifting c gone g best w i) (h : i < b .«challengers_len») where
     abbrev it : TimingHypothesis
     it = getD (c .challengers) i z
 
@@ -124,48 +142,80 @@ module _ (f : Hyp → Option Cause) (b : TimingBank) (gone₀ : List Departure) 
     pub sift-member : Fit it
     sift-member = subst Fit (sym here) (member (b .«challengers_len») (b .challengers) i z h (k .steady .crew))
 
-    pub sift-keeps : isNone (f (viewHyp it)) ≡ true → Sifting (restocked c (set (c .challengers) w it)) gone g (w + 1) (i + 1)
-    sift-keeps t =
-        let n = k .steady .crew .few in
-        let m = k .behind in
-        let u = k .sum in
-        let l = k .long in
-        let e = no-cause (f (viewHyp it)) t in
-        let at-end : take (w + 1) (set (c .challengers) w it) ≡ take w (c .challengers) ++ (it ∷ []) = put-at-end (c .challengers) w it (omega arith) in
-        record {
-          upto = omega arith;
-          sum = omega arith;
-          behind = omega arith;
-          same = ap (λ (x : TimingBank). restocked x (set (c .challengers) w it)) (k .same);
-          front =
-              ap (map viewHyp) at-end ∙ map-snoc viewHyp (take w (c .challengers)) it ∙ ap (λ (r : List Hyp). r ++ (viewHyp it ∷ [])) (k .front)
-              ∙ ap (λ (o : Option Cause). staying f (take i (view b .challengers)) ++ stayIf o (viewHyp it) []) (sym e) ∙ sym (stay-next f (view b .challengers) i (viewHyp z) (viewHyp it) size seen);
-          rest = drop-set-lt (i + 1) (c .challengers) w it (omega arith) ∙ after;
-          left =
-              k .left ∙ ap (λ (r : List Departure). take g₀ gone₀ ++ r)
-              (sym (append-nil (leaving f (take i (view b .challengers)))) ∙ ap (λ (o : Option Cause). leaving f (take i (view b .challengers)) ++ leaveIf o (viewHyp it) []) (sym e) ∙ sym (leave-next f (view b .challengers) i (viewHyp z) (viewHyp it) size seen));
-          long = length-set (c .challengers) w it ∙ k .long;
-          space = k .space;
-          few = k .few;
-          fine = subst (All Fit) (sym at-end) (all-append Fit (take w (c .challengers)) it (k .fine) sift-member);
-          steady = k .steady;
-        }
+    stays : isNone (f (viewHyp it)) ≡ true → staying f (take i (view b .challengers)) ++ (viewHyp it ∷ []) ≡ staying f (take (i + 1) (view b .challengers))
+    stays t =
+        ap (λ (o : Option Cause). staying f (take i (view b .challengers)) ++ stayIf o (viewHyp it) []) (sym (no-cause (f (viewHyp it)) t))
+        ∙ sym (stay-next f (view b .challengers) i (viewHyp z) (viewHyp it) size seen)
 
-    pub sift-drops : (y : Cause) → some y ≡ f (viewHyp it) → Sifting c (set gone g (record { serial = it .serial; cause = y })) (g + 1) w (i + 1)
+    -- it stays, as e
+    module _ (e : TimingHypothesis) (r : (viewHyp e ≡ u (viewHyp it)) × Fit e) (t : isNone (f (viewHyp it)) ≡ true) where
+      abbrev more : List TimingHypothesis
+      more = set (c .challengers) w e
+
+      room-there : w < length (c .challengers)
+      room-there =
+          let n = k .steady .crew .few in
+          let m = k .behind in
+          let l = k .long in
+          omega arith
+
+      at-end : take (w + 1) more ≡ take w (c .challengers) ++ (e ∷ [])
+      at-end = put-at-end (c .challengers) w e room-there
+
+      viewed : viewAll (w + 1) more ≡ viewAll w (c .challengers) ++ (viewHyp e ∷ [])
+      viewed = ap (map viewHyp) at-end ∙ map-snoc viewHyp (take w (c .challengers)) e
+
+      chosen : (best' : Best) → best' ≡ cond (q (viewHyp e)) (higher w (e .score) best) best → best' ≡ highestFrom q 0 Unfound (viewAll (w + 1) more)
+      chosen best' y =
+          let l = view-length viewHyp w (c .challengers) (let j = room-there in omega arith) in
+          let n : w ≡ 0 + length (viewAll w (c .challengers)) = omega arith in
+          y ∙ ap (λ (x : Best). cond (q (viewHyp e)) (higher w (e .score) x) x) (k .choice)
+          ∙ ap (λ (j : ℕ). cond (q (viewHyp e)) (higher j (e .score) (highestFrom q 0 Unfound (viewAll w (c .challengers)))) (highestFrom q 0 Unfound (viewAll w (c .challengers)))) n
+          ∙ sym (highest-snoc q 0 Unfound (viewAll w (c .challengers)) (viewHyp e)) ∙ ap (highestFrom q 0 Unfound) (sym viewed)
+
+      pub sift-keeps : (best' : Best) → best' ≡ cond (q (viewHyp e)) (higher w (e .score) best) best → Sifting (restocked c more) gone g best' (w + 1) (i + 1)
+      sift-keeps best' y =
+          let m = k .behind in
+          let j = k .sum in
+          let o = no-cause (f (viewHyp it)) t in
+          let s : List Hyp = staying f (take i (view b .challengers)) in
+          record {
+            upto = omega arith;
+            sum = omega arith;
+            behind = omega arith;
+            same = ap (λ (x : TimingBank). restocked x more) (k .same);
+            front =
+                viewed ∙ ap (λ (l : List Hyp). l ++ (viewHyp e ∷ [])) (k .front) ∙ ap (λ (x : Hyp). map u s ++ (x ∷ [])) (r .0)
+                ∙ sym (map-snoc u s (viewHyp it)) ∙ ap (map u) (stays t);
+            choice = chosen best' y;
+            rest = drop-set-lt (i + 1) (c .challengers) w e (omega arith) ∙ after;
+            left =
+                k .left ∙ ap (λ (l : List Departure). take g₀ gone₀ ++ l)
+                (sym (append-nil (leaving f (take i (view b .challengers)))) ∙ ap (λ (x : Option Cause). leaving f (take i (view b .challengers)) ++ leaveIf x (viewHyp it) []) (sym o) ∙ sym (leave-next f (view b .challengers) i (viewHyp z) (viewHyp it) size seen));
+            long = length-set (c .challengers) w e ∙ k .long;
+            space = k .space;
+            few = k .few;
+            fine = subst (All Fit) (sym at-end) (all-append Fit (take w (c .challengers)) e (k .fine) (r .1));
+            steady = k .steady;
+          }
+
+    pub sift-drops : (y : Cause) → some y ≡ f (viewHyp it) → Sifting c (set gone g (record { serial = it .serial; cause = y })) (g + 1) best w (i + 1)
     sift-drops y e =
         let n = k .steady .crew .few in
         let m = k .few in
-        let u = k .sum in
+        let j = k .sum in
         let l = k .space in
         let d : Departure = record { serial = it .serial; cause = y } in
         record {
           upto = omega arith;
           sum = omega arith;
-          behind = let j = k .behind in omega arith;
+          behind = let a = k .behind in omega arith;
           same = k .same;
           front =
-              k .front ∙ sym (append-nil (staying f (take i (view b .challengers)))) ∙ ap (λ (o : Option Cause). staying f (take i (view b .challengers)) ++ stayIf o (viewHyp it) []) e
-              ∙ sym (stay-next f (view b .challengers) i (viewHyp z) (viewHyp it) size seen);
+              k .front ∙ ap (map u)
+              (sym (append-nil (staying f (take i (view b .challengers)))) ∙ ap (λ (o : Option Cause). staying f (take i (view b .challengers)) ++ stayIf o (viewHyp it) []) e
+              ∙ sym (stay-next f (view b .challengers) i (viewHyp z) (viewHyp it) size seen));
+          choice = k .choice;
           rest = after;
           left =
               put-at-end gone g d (omega arith) ∙ ap (λ (r : List Departure). r ++ (d ∷ [])) (k .left) ∙ append-assoc (take g₀ gone₀) (leaving f (take i (view b .challengers))) (d ∷ [])
@@ -178,9 +228,9 @@ module _ (f : Hyp → Option Cause) (b : TimingBank) (gone₀ : List Departure) 
           steady = k .steady;
         }
 
--- a bank with another count
-abbrev pub counted : TimingBank → ℕ → TimingBank
-counted c w = record {
+-- a bank with another count and another choice
+abbrev pub counted : TimingBank → ℕ → Bool → ℕ → TimingBank
+counted c w has i = record {
   width = c .width;
   switching = c .switching;
   «primary_score» = c .«primary_score»;
@@ -197,61 +247,117 @@ counted c w = record {
   «last_gap» = c .«last_gap»;
   «marks_seen» = c .«marks_seen»;
   «gaps_seen» = c .«gaps_seen»;
-  «has_pending» = c .«has_pending»;
-  pending = c .pending;
+  «has_pending» = has;
+  pending = i;
   log = c .log;
   «log_len» = c .«log_len»;
   started = c .started;
 }
 
-module _ (lo hi : Float) (t : Changed) (c : TimingBank) (gone : List Departure) (g w i : ℕ)
-    (k : Sifting (causeAt standard (t .bank .«primary_score») lo hi) (t .bank) (t .left) (t .«left_len») c gone g w i) (h : t .bank .«challengers_len» ≤ i) where
+abbrev withChoice : Bank → List Hyp → Option ℕ → Bank
+withChoice b l o = record {
+  width = b .width;
+  switching = b .switching;
+  score = b .score;
+  gap-score = b .gap-score;
+  challengers = l;
+  evidence = b .evidence;
+  marks = b .marks;
+  gaps = b .gaps;
+  pending = o;
+  log = b .log;
+  started = b .started;
+}
+
+-- the choice that was found
+given-place : (v : Best) (n : ℕ) → given (isFound v) (placeOr n v) ≡ place v
+given-place Unfound n = refl
+given-place (Found i s) n = refl
+
+place-before : (v : Best) (n w : ℕ) → Before w v → isFound v ≡ true → placeOr n v < w
+place-before Unfound n w h e = absurd (false≢true e)
+place-before (Found i s) n w h e = h
+
+module _ (lo hi : Float) (t : Changed) (c : TimingBank) (gone : List Departure) (g : ℕ) (best : Best) (w i : ℕ)
+    (k : Sifting (causeAt standard (t .bank .«primary_score») lo hi) (led standard (t .bank .«primary_score»)) (qualifies (t .bank .«primary_gap_score»)) (t .bank) (t .left) (t .«left_len») c gone g best w i) (h : t .bank .«challengers_len» ≤ i) where
   abbrev b : TimingBank
   b = t .bank
 
   abbrev f : Hyp → Option Cause
   f = causeAt standard (b .«primary_score») lo hi
 
+  abbrev u : Hyp → Hyp
+  u = led standard (b .«primary_score»)
+
+  abbrev q : Hyp → Bool
+  q = qualifies (b .«primary_gap_score»)
+
   whole : take i (view b .challengers) ≡ view b .challengers
   whole = let e = view-length viewHyp (b .«challengers_len») (b .challengers) (room (b .«challengers_len») (b .challengers) (k .steady .crew)) in take-all i (view b .challengers) (omega arith)
 
-  abbrev out : Changed
-  out = record { bank = counted c w; left = gone; «left_len» = g }
+  abbrev kept : List Hyp
+  kept = map u (staying f (view b .challengers))
 
-  pub sift-told : told out ≡ andThen (told t) (prunedAt standard lo hi)
-  unfolding prunedAt
-  sift-told =
-      ap (λ (x : TimingBank). told (record { bank = counted x w; left = gone; «left_len» = g })) (k .same)
-      ∙ ap (λ (l : List Hyp). record { bank = withChallengers (view b) l; left = take g gone }) (k .front ∙ ap (staying f) whole)
-      ∙ ap (λ (l : List Departure). record { bank = withChallengers (view b) (staying f (view b .challengers)); left = l }) (k .left ∙ ap (λ (l : List Hyp). take (t .«left_len») (t .left) ++ leaving f l) whole)
+  those : viewAll w (c .challengers) ≡ kept
+  those = k .front ∙ ap (λ (l : List Hyp). map u (staying f l)) whole
 
-  pub sift-steady : Steady (counted c w)
-  sift-steady =
-      let s = k .steady in
-      let n = s .crew .few in
-      let m = s .below in
-      let u = k .behind in
+  abbrev out : ℕ → Changed
+  out n = record { bank = counted c w (isFound best) (placeOr n best); left = gone; «left_len» = g }
+
+  sift-told : (n : ℕ) → told (out n) ≡ leading standard (andThen (told t) (prunedAt standard lo hi))
+  unfolding prunedAt qualified
+  sift-told n =
+      ap (λ (x : TimingBank). told (record { bank = counted x w (isFound best) (placeOr n best); left = gone; «left_len» = g })) (k .same)
+      ∙ ap (λ (l : List Hyp). record { bank = withChoice (view b) l (given (isFound best) (placeOr n best)); left = take g gone }) those
+      ∙ ap (λ (o : Option ℕ). record { bank = withChoice (view b) kept o; left = take g gone }) (given-place best n ∙ ap place (k .choice ∙ ap (highestFrom q 0 Unfound) those))
+      ∙ ap (λ (l : List Departure). record { bank = withChoice (view b) kept (place (highestFrom q 0 Unfound kept)); left = l }) (k .left ∙ ap (λ (l : List Hyp). take (t .«left_len») (t .left) ++ leaving f l) whole)
+
+  sift-before : Before w best
+  sift-before =
+      let s = k .steady .crew .few in
+      let m = k .behind in
       let v = k .upto in
-      subst (λ (x : TimingBank). Steady (counted x w)) (sym (k .same)) (record {
-        some = s .some;
-        wide = s .wide;
-        below = omega arith;
-        crew = record { few = omega arith; long = k .long; each = k .fine };
-        score = s .score;
-        gapScore = s .gapScore;
-        streaks = s .streaks;
-        lastGap = s .lastGap;
-        log = s .log;
+      let l = k .long in
+      let z = view-length viewHyp w (c .challengers) (omega arith) in
+      let e : 0 + length (viewAll w (c .challengers)) ≡ w = omega arith in
+      subst (Before w) (sym (k .choice)) (subst (λ (n : ℕ). Before n (highestFrom q 0 Unfound (viewAll w (c .challengers)))) e (highest-before q 0 Unfound (viewAll w (c .challengers)) tt))
+
+  sift-sturdy : (n : ℕ) → Sturdy (counted c w (isFound best) (placeOr n best))
+  sift-sturdy n =
+      let s = k .steady in
+      let m = s .below in
+      let o = s .crew .few in
+      let a = k .behind in
+      let v = k .upto in
+      subst (λ (x : TimingBank). Sturdy (counted x w (isFound best) (placeOr n best))) (sym (k .same)) (record {
+        steady = record {
+          some = s .some;
+          wide = s .wide;
+          below = omega arith;
+          crew = record { few = omega arith; long = k .long; each = k .fine };
+          score = s .score;
+          gapScore = s .gapScore;
+          streaks = s .streaks;
+          lastGap = s .lastGap;
+          log = s .log;
+        };
+        pending = place-before best n w sift-before;
       })
 
-  pub sift-few : g ≤ suc widest
-  sift-few =
+  ended : (n : ℕ) → Left (out n) (leading standard (andThen (told t) (prunedAt standard lo hi)))
+  ended n =
       let s = k .steady in
-      let n = s .crew .few in
+      let o = s .crew .few in
       let e = k .sum in
-      let f = k .few in
-      let u = k .upto in
-      omega arith
+      let a = k .few in
+      let v = k .upto in
+      record { is = sift-told n; sturdy = sift-sturdy n; few = omega arith }
+
+  abbrev Ends : Bool → ℕ → Type 0
+  Ends has j = Left (record { bank = counted c w has j; left = gone; «left_len» = g }) (leading standard (andThen (told t) (prunedAt standard lo hi)))
+
+  pub sift-ends : (has : Bool) (n j : ℕ) → has ≡ isFound best → j ≡ placeOr n best → Ends has j
+  sift-ends has n j e d = subst (λ (x : Bool). Ends x j) (sym e) (subst (λ (x : ℕ). Ends (isFound best) x) (sym d) (ended n))
 
 -- ---- a loop that notes all of them: the first i are noted
 module _ (n : ℕ) (l : List TimingHypothesis) where

@@ -9,6 +9,8 @@ use lib.Ieee.{Float}
 use Rattle.ranges.specs.Limits.{nought, scoreMin, durationMin, durationMax}
 use Rattle.ranges.specs.Interval.{In, AllIn}
 use Rattle.bank_model.specs.declared.SwitchRecord.{SwitchRecord}
+use Rattle.bank_model.specs.declared.Best.{Best}
+use Rattle.bank_model.specs.declared.Best.the-variants.{Unfound, Found}
 use Rattle.rival.specs.declared.TimingHypothesis.{TimingHypothesis}
 use Rattle.bank.specs.declared.TimingBank.{TimingBank}
 use Rattle.bank_model.specs.Model.{Hyp, Bank, Told, withEvidence}
@@ -151,6 +153,15 @@ pub record Left (r : Changed) (m : Told) : Type 0 where
 -- a bank with another streak, on a side
 abbrev pub withStreak : Bank → Bool → List Float → List Float → Bank
 withStreak b side marks gaps = withEvidence b (record { streak = marks; gaps = gaps; side = some side; last-gap = b .evidence .last-gap })
+
+-- whether a search found one, and its place, else n
+abbrev pub isFound : Best → Bool
+isFound Unfound = false
+isFound (Found i s) = true
+
+abbrev pub placeOr : ℕ → Best → ℕ
+placeOr n Unfound = n
+placeOr n (Found i s) = i
 
 -- refusal 2 does not hold
 pub record Countable (b : TimingBank) : Type 0 where

@@ -6,7 +6,6 @@ pub mod fresh;
 pub mod gap;
 pub mod leave;
 pub mod mark;
-pub mod qualify;
 pub mod ready;
 pub mod refusals;
 pub mod sound;

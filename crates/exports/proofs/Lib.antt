@@ -4,3 +4,4 @@ pub mod Handing
 pub mod Banking
 pub mod Rivals
 pub mod Stations
+pub mod Watches

@@ -1,7 +1,7 @@
 -- How the answers of `station` leave by C's way. Definitions only.
 use mathlib.Core.Path.{_≡_}
 use mathlib.Core.Bool.{Bool, true, false, cond, not}
-use mathlib.Core.List.{map}
+use mathlib.Core.List.{List, [], _∷_, map}
 use mathlib.Core.Option.{Option, none, some}
 use Prim.Native.Nat.{ℕ, _≤_}
 use lib.Dec.{T, eqb, leb}
@@ -97,3 +97,14 @@ outcomeOn p o = record {
   left = map plainDeparture (o .answer .left);
   «left_len» = o .answer .«left_len»;
 }
+
+-- ---- a watch of events given by kinds and numbers, the first first, each mark live; a kind that no event has changes nothing
+
+abbrev pub onward : Model.Station → Option Event → Model.Station
+onward m none = m
+onward m (some e) = step standard m e .station
+
+unfoldable pub watchOf : Model.Station → List ℕ → List Float → Model.Station
+watchOf m [] vs = m
+watchOf m (k ∷ ks) [] = m
+watchOf m (k ∷ ks) (v ∷ vs) = watchOf (onward m (eventOf v true k)) ks vs

@@ -37,6 +37,13 @@ mod c {
     extern "C" {
         pub fn hullathan_station_fresh(width: usize, switching: bool) -> Started;
         pub fn hullathan_station_call(s: Station, kind: u8, value: f32, live: bool) -> Answered;
+        pub fn hullathan_inner_station_watch(
+            s: Station,
+            kinds: *const u8,
+            kinds_len: usize,
+            values: *const f32,
+            values_len: usize,
+        ) -> Station;
     }
 }
 
@@ -48,6 +55,20 @@ pub fn fresh(width: usize, switching: bool) -> Started {
 
 pub fn call(s: Station, kind: u8, value: f32, live: bool) -> Answered {
     unsafe { c::hullathan_station_call(s, kind, value, live) }
+}
+
+/// A watch of events, each mark live, by the inner call.
+///
+/// # Safety
+/// The station comes from a fresh one by calls, and there are as many numbers as kinds.
+pub unsafe fn inner_watch(s: Station, kinds: &[u8], values: &[f32]) -> Station {
+    c::hullathan_inner_station_watch(
+        s,
+        kinds.as_ptr(),
+        kinds.len(),
+        values.as_ptr(),
+        values.len(),
+    )
 }
 
 #[cfg(test)]

@@ -13,10 +13,10 @@ ghost use mathlib.Core.Path.{_≡_};
 ghost use mathlib.Core.Bool.{cond};
 ghost use Rattle.ranges.specs.Settings.{standard};
 ghost use Rattle.bank_model.specs.declared.Best.the-variants.{Unfound};
-ghost use Rattle.bank_model.specs.Steps.{lesser, higher, eligible, qualifies, leastFrom, highestFrom, anyTwin, greatestUnit};
+ghost use Rattle.bank_model.specs.Steps.{lesser, higher, eligible, qualifies, leastFrom, anyTwin, greatestUnit};
 ghost use Rattle.rival.specs.View.{viewHyp};
 ghost use Rattle.bank.specs.View.{view};
-ghost use Rattle.bank.specs.Parts.{Crew};
+ghost use Rattle.bank.specs.Parts.{Crew, isFound, placeOr};
 
 // The greatest of u and the challengers' dit estimates.
 pub(crate) fn greatest_unit(b: TimingBank, u: f32) -> f32
@@ -90,19 +90,22 @@ pub(crate) fn better(i: usize, h: TimingHypothesis, gap_score: f32, acc: Best) -
     }
 }
 
-// The first highest score among those that may be chosen.
-pub(crate) fn chosen(b: TimingBank) -> Best
-    requires { ⌜ Crew (b .«challengers_len») (b .challengers) ⌝ }
-    ensures { λ r. ⌜ r ≡ highestFrom (qualifies (b .«primary_gap_score»)) 0 Unfound (view b .challengers) ⌝ }
+// Whether one was found.
+pub(crate) fn is_found(v: Best) -> bool
+    ensures { λ r. ⌜ r ≡ isFound v ⌝ }
 {
-    let n = b.challengers_len;
-    let g = b.primary_gap_score;
-    let mut acc = Best::Unfound;
-    let mut i: usize = 0;
-    while i < n {
-        let h = b.challengers[i];
-        acc = better(i, h, g, acc);
-        i += 1;
+    match v {
+        Best::Unfound => false,
+        Best::Found(_, _) => true,
     }
-    acc
+}
+
+// The place that was found, else n.
+pub(crate) fn place_or(n: usize, v: Best) -> usize
+    ensures { λ r. ⌜ r ≡ placeOr n v ⌝ }
+{
+    match v {
+        Best::Unfound => n,
+        Best::Found(i, _) => i,
+    }
 }

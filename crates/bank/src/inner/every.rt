@@ -1,7 +1,6 @@
-// A mark, a gap or a new lead, for every challenger.
+// A mark or a gap, for every challenger.
 use crate::TimingBank;
 use rival::inner::each::gap_one;
-use rival::inner::each::lead_one;
 use rival::inner::each::mark_one;
 ghost use mathlib.Core.Path.{_≡_};
 ghost use mathlib.Core.List.{map};
@@ -9,7 +8,7 @@ ghost use lib.Dec.{T};
 ghost use Rattle.numbers.specs.Log.{lnOf};
 ghost use Rattle.ranges.specs.Settings.{standard};
 ghost use Rattle.marks.specs.Lists.{duration};
-ghost use Rattle.bank_model.specs.Steps.{marked, gapped, led};
+ghost use Rattle.bank_model.specs.Steps.{marked, gapped};
 ghost use Rattle.bank.specs.View.{view};
 ghost use Rattle.bank.specs.Parts.{Crew, Restocked};
 
@@ -45,24 +44,6 @@ pub(crate) fn gap_all(b: TimingBank, x: f32, d: f32) -> TimingBank
     while i < n {
         let h = c.challengers[i];
         let g = gap_one(h, x, d);
-        c.challengers[i] = g;
-        i += 1;
-    }
-    c
-}
-
-// Each challenger's lead over the primary.
-pub(crate) fn lead_all(b: TimingBank) -> TimingBank
-    requires { ⌜ Crew (b .«challengers_len») (b .challengers) ⌝ }
-    ensures { λ r. ⌜ Restocked b r (map (led standard (b .«primary_score»)) (view b .challengers)) ⌝ }
-{
-    let mut c = b;
-    let n = b.challengers_len;
-    let score = b.primary_score;
-    let mut i: usize = 0;
-    while i < n {
-        let h = c.challengers[i];
-        let g = lead_one(h, score);
         c.challengers[i] = g;
         i += 1;
     }

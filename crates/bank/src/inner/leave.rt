@@ -1,19 +1,24 @@
 // Who leaves: `prune`, and what a clear tells.
 use crate::Changed;
 use crate::TimingBank;
+use crate::inner::among::better;
+use crate::inner::among::is_found;
+use crate::inner::among::place_or;
+use bank_model::Best;
 use bank_model::Cause;
 use bank_model::Departure;
 use rival::inner::each::is_kept;
+use rival::inner::each::lead_one;
 use rival::inner::each::why;
 ghost use mathlib.Core.Path.{_≡_};
 ghost use mathlib.Core.List.{map};
-ghost use Prim.Native.Nat.{suc, _≤_};
+ghost use Prim.Native.Nat.{_≤_};
 ghost use lib.ListN.{length, take};
 ghost use Rattle.ranges.specs.Settings.{standard};
 ghost use Rattle.bank_model.specs.Model.{stay, andThen};
-ghost use Rattle.bank_model.specs.Steps.{prunedAt, goneCleared};
+ghost use Rattle.bank_model.specs.Steps.{prunedAt, leading, goneCleared};
 ghost use Rattle.bank.specs.View.{view, told};
-ghost use Rattle.bank.specs.Parts.{widest, Crew, Steady};
+ghost use Rattle.bank.specs.Parts.{Crew, Left, Steady};
 
 // No one leaves.
 pub(crate) fn nobody() -> [Departure; 9]
@@ -38,24 +43,29 @@ pub(crate) fn unchanged(b: TimingBank) -> Changed
     }
 }
 
-// Twins, then the outscored and the aged that nothing protects, leave a bank whose primary has the logarithms lo and hi.
+// Twins, then the outscored and the aged that nothing protects, leave a bank whose primary has the logarithms lo and hi. Of those that
+// stay, leads are one mark longer or lost, and the choice is made among those that qualify.
 pub(crate) fn prune(t: Changed, lo: f32, hi: f32) -> Changed
     requires { ⌜ Steady (t .bank) ⌝ }
     requires { ⌜ (t .«left_len» ≤ 1) × (length (t .left) ≡ 9) ⌝ }
-    ensures { λ r. ⌜ (told r ≡ andThen (told t) (prunedAt standard lo hi)) × (Steady (r .bank) × (r .«left_len» ≤ suc widest)) ⌝ }
+    ensures { λ r. ⌜ Left r (leading standard (andThen (told t) (prunedAt standard lo hi))) ⌝ }
 {
     let mut c = t.bank;
     let mut left = t.left;
     let mut g = t.left_len;
     let n = c.challengers_len;
     let score = c.primary_score;
+    let gap_score = c.primary_gap_score;
+    let mut best = Best::Unfound;
     let mut w: usize = 0;
     let mut i: usize = 0;
     while i < n {
         let h = c.challengers[i];
         i += 1;
         if is_kept(h, lo, hi, score) {
-            c.challengers[w] = h;
+            let e = lead_one(h, score);
+            best = better(w, e, gap_score, best);
+            c.challengers[w] = e;
             w += 1;
         } else {
             let cause = why(h, lo, hi, score);
@@ -68,6 +78,8 @@ pub(crate) fn prune(t: Changed, lo: f32, hi: f32) -> Changed
         }
     }
     c.challengers_len = w;
+    c.has_pending = is_found(best);
+    c.pending = place_or(c.pending, best);
     Changed {
         bank: c,
         left,

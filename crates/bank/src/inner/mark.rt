@@ -4,7 +4,6 @@ use crate::TimingBank;
 use crate::inner::every::mark_all;
 use crate::inner::leave::prune;
 use crate::inner::leave::unchanged;
-use crate::inner::qualify::qualifying;
 use crate::inner::streak::is_high;
 use crate::inner::streak::step_streak;
 use bank_model::inner::scores::decayed;
@@ -83,15 +82,7 @@ pub(crate) fn hear_mark(b: TimingBank, p: SpeedTracker, d: f32, live: bool) -> C
     let lo = log_of(q.lo);
     let hi = log_of(q.hi);
     let t = score_mark(b, p, lo, hi, d, live);
-    let u = prune(t, lo, hi);
-    let c = u.bank;
-    let e = qualifying(c);
-    let left = u.left;
-    Changed {
-        bank: e,
-        left,
-        left_len: u.left_len,
-    }
+    prune(t, lo, hi)
 }
 
 // Whether a bank of this width hears anything beside a primary that is ready or not.

@@ -30,14 +30,14 @@ pub struct Taken {
     pub switched: bool,
 }
 
-// The oldest of sixteen goes, and e comes.
-pub(crate) fn shift_log(l: [SwitchRecord; 16], e: SwitchRecord) -> [SwitchRecord; 16]
-    requires { ⌜ length l ≡ 16 ⌝ }
+// The oldest of n, which are sixteen, goes, and e comes. (A loop to a known end would be unrolled, and the log copied record by record.)
+pub(crate) fn shift_log(l: [SwitchRecord; 16], n: usize, e: SwitchRecord) -> [SwitchRecord; 16]
+    requires { ⌜ (length l ≡ 16) × (n ≡ 16) ⌝ }
     ensures { λ s. ⌜ s ≡ drop 1 l ++ (e ∷ []) ⌝ }
 {
     let mut out = l;
     let mut i: usize = 0;
-    while i < 15 {
+    while i + 1 < n {
         let j = i + 1;
         let x = out[j];
         out[i] = x;
@@ -61,7 +61,7 @@ pub(crate) fn push_log(b: TimingBank, e: SwitchRecord) -> TimingBank
         return c;
     }
     let l = b.log;
-    let s = shift_log(l, e);
+    let s = shift_log(l, n, e);
     c.log = s;
     c
 }

@@ -1,7 +1,7 @@
 use borrow.Author.Needs.{needs}
 use mathlib.Core.Path.{_≡_, refl, ap, sym, _∙_}
 use Prim.Native.Nat.{ℕ, _-_, _+_}
-use Rattle.bank.proofs.Leaving.{Sifting, sift-begins, sift-member, sift-keeps, sift-drops, sift-told, sift-steady, Noting, note-begins, note-turns, note-ends}
+use Rattle.bank.proofs.Leaving.{Noting, note-begins, note-turns, note-ends}
 use Rattle.bank.proofs.inner.leave.all_cleared.Statement.{statement}
 use Rattle.bank.proofs.inner.leave.all_cleared.Tie as tie
 use Rattle.bank.proofs.inner.leave.all_cleared.Reads as reads

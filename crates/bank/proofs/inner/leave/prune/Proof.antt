@@ -1,89 +1,81 @@
+-- `bank::inner::leave::prune` meets its contract. Assumes nothing.
+use mathlib.Core.Path.{sym, _∙_}
+use Prim.Native.Nat.{_-_}
 use borrow.Author.Needs.{needs}
-use mathlib.Core.Path.{_≡_, refl, ap, sym, _∙_}
 use Rattle.ranges.specs.Settings.{standard}
-use Prim.Native.Nat.{ℕ, _-_, _+_}
-use Rattle.bank.proofs.Leaving.{Sifting, sift-begins, sift-member, sift-keeps, sift-drops, sift-told, sift-steady, sift-few, Noting, note-begins, note-turns, note-ends}
-use Rattle.bank_model.specs.Steps.{causeAt}
+use Rattle.bank_model.specs.Steps.{causeAt, led, qualifies}
+use Rattle.bank.proofs.Leaving.{Sifting, sift-begins, sift-member, sift-keeps, sift-drops, sift-ends}
 use Rattle.bank.proofs.inner.leave.prune.Statement.{statement}
 use Rattle.bank.proofs.inner.leave.prune.Tie as tie
-use Rattle.bank.proofs.inner.leave.prune.Reads as reads
-use Rattle.bank.proofs.inner.leave.prune.Lts as lts
-use Rattle.rival.proofs.inner.each.is_kept.Reads as is-kept-reads
-use Rattle.rival.proofs.inner.each.why.Reads as why-reads
 
 abbrev Inv-loop : tie.InvT-loop
-Inv-loop lo hi c₀ left₀ g₀ n score w₀ i₀ c left g w i = Sifting (causeAt standard score lo hi) c₀ left₀ g₀ c left g w i
+Inv-loop lo hi c₀ left₀ g₀ n score gap-score best₀ w₀ i₀ c left g best w i = Sifting (causeAt standard score lo hi) (led standard score) (qualifies gap-score) c₀ left₀ g₀ c left g best w i
 
 abbrev μ-loop : tie.MeasureT-loop
-μ-loop lo hi c₀ left₀ g₀ n score w₀ i₀ c left g w i = n - i
+μ-loop lo hi c₀ left₀ g₀ n score gap-score best₀ w₀ i₀ c left g best w i = n - i
 
--- src/inner/leave.rt:54:5
 loop-holds : tie.Need-loop-holds Inv-loop μ-loop
-loop-holds c = sift-begins _ _ _ _ (c .before .before .pre .0) (c .before .before .pre .1 .0) (c .before .before .pre .1 .1)
+loop-holds c = sift-begins _ _ _ _ _ _ (c .before .before .pre .0) (c .before .before .pre .1 .0) (c .before .before .pre .1 .1)
 
--- src/inner/leave.rt:55:17
 mul-h : tie.Need-mul-h Inv-loop μ-loop
 mul-h c = search needs
 
--- src/inner/leave.rt:55:17
 element-copy-out-h : tie.Need-element-copy-out-h Inv-loop μ-loop
 element-copy-out-h c = search needs
 
--- src/inner/leave.rt:56:9
 add-i : tie.Need-add-i Inv-loop μ-loop
 add-i c = search needs
 
--- src/inner/leave.rt:57:12
 is-kept-requires : tie.Need-is-kept-requires Inv-loop μ-loop
-is-kept-requires c κs = sift-member _ _ _ _ _ _ _ _ _ _ (c .before .before .loop .inv) (c .before .loop-test .taken)
+is-kept-requires c κs = sift-member _ _ _ _ _ _ _ _ _ _ _ _ _ (c .before .before .loop .inv) (c .before .loop-test .taken)
 
--- src/inner/leave.rt:58:13
-mul-h-2 : tie.Need-mul-h-2 Inv-loop μ-loop
-mul-h-2 c = search needs
+lead-one-requires : tie.Need-lead-one-requires Inv-loop μ-loop
+lead-one-requires c κs = sift-member _ _ _ _ _ _ _ _ _ _ _ _ _ (c .before .before .before .before .loop .inv) (c .before .before .before .loop-test .taken)
 
--- src/inner/leave.rt:58:13
-element-set-from-h : tie.Need-element-set-from-h Inv-loop μ-loop
-element-set-from-h c = search needs
+better-requires : tie.Need-better-requires Inv-loop μ-loop
+better-requires c κs = search needs
 
--- src/inner/leave.rt:59:13
+mul-e : tie.Need-mul-e Inv-loop μ-loop
+mul-e c = search needs
+
+element-set-from-e : tie.Need-element-set-from-e Inv-loop μ-loop
+element-set-from-e c = search needs
+
 add-w : tie.Need-add-w Inv-loop μ-loop
 add-w c = search needs
 
--- src/inner/leave.rt:54:5
 loop-less : tie.Need-loop-less Inv-loop μ-loop
 loop-less c = search needs
 
--- src/inner/leave.rt:54:5
 loop-again : tie.Need-loop-again Inv-loop μ-loop
-loop-again c = sift-keeps _ _ _ _ _ _ _ _ _ _ (c .before .before .before .before .loop .inv) (c .before .before .before .loop-test .taken) (sym (c .before .is-kept .ensures) ∙ c .if1 .taken)
+loop-again c = let s = c .before .before .before .before .before .before in sift-keeps _ _ _ _ _ _ _ _ _ _ _ _ _ (s .loop .inv) (c .before .before .before .before .before .loop-test .taken) _ (c .before .lead-one .ensures) (sym (c .before .before .before .is-kept .ensures) ∙ c .before .before .if1 .taken) _ (c .better .ensures)
 
--- src/inner/leave.rt:61:17
 why-requires : tie.Need-why-requires Inv-loop μ-loop
-why-requires c κs = (sift-member _ _ _ _ _ _ _ _ _ _ (c .before .before .before .before .loop .inv) (c .before .before .before .loop-test .taken), sym (c .before .is-kept .ensures) ∙ c .if1 .left)
+why-requires c κs = (sift-member _ _ _ _ _ _ _ _ _ _ _ _ _ (c .before .before .before .before .loop .inv) (c .before .before .before .loop-test .taken), sym (c .before .is-kept .ensures) ∙ c .if1 .left)
 
--- src/inner/leave.rt:66:13
 mul-left : tie.Need-mul-left Inv-loop μ-loop
 mul-left c = search needs
 
--- src/inner/leave.rt:66:13
 array-set-from-left : tie.Need-array-set-from-left Inv-loop μ-loop
 array-set-from-left c = search needs
 
--- src/inner/leave.rt:67:13
 add-g : tie.Need-add-g Inv-loop μ-loop
 add-g c = search needs
 
--- src/inner/leave.rt:54:5
 loop-less-2 : tie.Need-loop-less-2 Inv-loop μ-loop
 loop-less-2 c = search needs
 
--- src/inner/leave.rt:54:5
 loop-again-2 : tie.Need-loop-again-2 Inv-loop μ-loop
-loop-again-2 c = sift-drops _ _ _ _ _ _ _ _ _ _ (c .before .before .before .before .before .loop .inv) (c .before .before .before .before .loop-test .taken) _ (c .why .ensures)
+loop-again-2 c = sift-drops _ _ _ _ _ _ _ _ _ _ _ _ _ (c .before .before .before .before .before .loop .inv) (c .before .before .before .before .loop-test .taken) _ (c .why .ensures)
 
--- src/inner/leave.rt:42:1
+is-found-requires : tie.Need-is-found-requires Inv-loop μ-loop
+is-found-requires c κs = search needs
+
+place-or-requires : tie.Need-place-or-requires Inv-loop μ-loop
+place-or-requires c κs = search needs
+
 returns : tie.Need-returns Inv-loop μ-loop
-returns c = (sift-told _ _ (c .before .before .before .before .args .t) _ _ _ _ _ (c .before .loop .inv) (c .loop-test .left), (sift-steady _ _ (c .before .before .before .before .args .t) _ _ _ _ _ (c .before .loop .inv) (c .loop-test .left), sift-few _ _ (c .before .before .before .before .args .t) _ _ _ _ _ (c .before .loop .inv) (c .loop-test .left)))
+returns c = sift-ends _ _ (c .before .before .before .before .before .before .args .t) _ _ _ _ _ _ (c .before .before .before .loop .inv) (c .before .before .loop-test .left) _ _ _ (c .before .is-found .ensures) (c .place-or .ensures)
 
 pub prune-spec : {M : Type 1} → statement M
 prune-spec =
@@ -96,8 +88,10 @@ prune-spec =
     element-copy-out-h
     add-i
     is-kept-requires
-    mul-h-2
-    element-set-from-h
+    lead-one-requires
+    better-requires
+    mul-e
+    element-set-from-e
     add-w
     loop-less
     loop-again
@@ -107,4 +101,6 @@ prune-spec =
     add-g
     loop-less-2
     loop-again-2
+    is-found-requires
+    place-or-requires
     returns)

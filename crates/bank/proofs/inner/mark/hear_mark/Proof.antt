@@ -10,7 +10,6 @@ use Rattle.bank.proofs.inner.mark.hear_mark.Reads as reads
 use Rattle.bank.proofs.inner.mark.hear_mark.Lts as lts
 use Rattle.bank.proofs.inner.leave.prune.Reads as prune-reads
 use Rattle.bank.proofs.inner.mark.score_mark.Reads as score-mark-reads
-use Rattle.bank.proofs.inner.qualify.qualifying.Reads as qualifying-reads
 use Rattle.bank_model.proofs.inner.scores.log_of.Reads as log-of-reads
 
 -- src/inner/mark.rt:68:9
@@ -29,13 +28,8 @@ score-mark-requires c κs = search needs
 prune-requires : tie.Need-prune-requires
 prune-requires c κs = search needs
 
--- src/inner/mark.rt:73:9
-qualifying-requires : tie.Need-qualifying-requires
-qualifying-requires c κs = c .before .prune .ensures .1 .0
-
--- src/inner/mark.rt:61:1
 returns : tie.Need-returns
-returns c = record { is = mark-told (view (c .before .before .before .before .before .before .before .before .args .b)) (Tracked.view (c .before .before .before .before .before .before .before .before .args .p)) _ _ (c .before .before .before .before .before .before .before .before .args .d) (c .before .before .before .before .before .before .before .before .args .live) (c .before .before .before .before .score-mark .result) (c .before .before .before .prune .result) (c .before .qualifying .result) (c .before .before .before .before .before .before .log-of .ensures) (c .before .before .before .before .before .log-of2 .ensures) (c .before .before .before .before .score-mark .ensures .is) (c .before .before .before .prune .ensures .0) (c .before .qualifying .ensures .0); sturdy = c .before .qualifying .ensures .1; few = c .before .before .before .prune .ensures .1 .1 }
+returns c = let s = c .before .before .before .before .before .args in let u = c .prune .ensures in record { is = mark-told (view (s .b)) (Tracked.view (s .p)) _ _ (s .d) (s .live) (c .before .score-mark .result) _ (c .before .before .before .log-of .ensures) (c .before .before .log-of2 .ensures) (c .before .score-mark .ensures .is) (u .is); sturdy = u .sturdy; few = u .few }
 
 pub hear-mark-spec : {M : Type 1} → statement M
 hear-mark-spec =
@@ -45,5 +39,4 @@ hear-mark-spec =
     log-of-requires-2
     score-mark-requires
     prune-requires
-    qualifying-requires
     returns)

@@ -1,5 +1,5 @@
 use Rattle.bank.proofs.Coming.{unchanged-is, unchanged-came, push-came, replace-came, spawn-is, roomy-yes, roomy-no, came-as}
-use Rattle.bank.proofs.Choosing.{found-before, victim-before, none-chosen, one-chosen}
+use Rattle.bank.proofs.Choosing.{found-before, victim-before}
 use mathlib.Core.Path.{_≡_, refl, ap, sym, _∙_}
 use native.Mathlib.Omega.{arith}
 use borrow.Author.Needs.{needs}
