@@ -17,9 +17,16 @@ use Rattle.station.specs.declared.Station.{Station}
 use Rattle.journal_lines.specs.Journal.{answer}
 use Rattle.journal_lines.specs.Pieces.{feed, within}
 use Rattle.journal_lines.specs.Pieces as Pieces
-use Rattle.journal_lines.specs.Parts.{Advances, Feeds, Gathers, Goes, Writes, hasNewline, keeps, keepsAt, newlineAt, reading, takenAt, upToNewline, viewed}
-use Rattle.journal_lines.proofs.Joining.{feed-append}
+use Rattle.journal_lines.specs.Parts.{Feeds, Gathers, Goes, hasNewline, keeps, keepsAt, newlineAt, reading, takenAt, upToNewline, viewed}
+use Rattle.journal_lines.proofs.Answering.{Writes}
 use Rattle.journal_lines.proofs.Feeding.{feed-spent, feed-part, feed-line, taken-few, taken-some, taken-part, within-spent, within-part, within-line, keeping}
+
+-- one line of it, or all where no newline is in it: and it goes on from there
+pub record Advances (j : Journal) (piece was is : List ℕ) (r : Fed) : Type 0 where
+  pub feeds : Feeds j piece was is r
+  pub moves : 0 < length piece → 0 < r .used
+  pub room : r .put ≤ length was
+  pub onward : (room : ℕ) → 80 ≤ room → within standard room (viewed j) piece ≡ r .used + within standard (room - r .put) (viewed (r .journal)) (drop (r .used) piece)
 
 -- ---- what is fed, as the definitions have it
 

@@ -2,7 +2,7 @@
 use mathlib.Core.Path.{_≡_, refl, ap, sym, _∙_, subst}
 use mathlib.Core.Bool.{Bool, true, false, cond, not, false≢true}
 use mathlib.Core.Option.{none, some}
-use mathlib.Core.List.{List}
+use mathlib.Core.List.{List, _++_}
 use Prim.Native.Nat.{ℕ, _≤_, _<_}
 use Prim.Native.Char.{code}
 use native.Mathlib.Omega.{arith}
@@ -35,7 +35,7 @@ use Rattle.line_out.specs.declared.Shown.{Shown}
 use Rattle.line_out.specs.Shown.{line}
 use Rattle.line_out.specs.Written.{over}
 use Rattle.journal_lines.specs.Journal.{Turn, answer, called, letter, opened, shown, turn}
-use Rattle.journal_lines.specs.Parts.{Answered, Lives, Writes, calls, reading}
+use Rattle.journal_lines.specs.Parts.{Answered, Lives, calls, reading}
 use Rattle.journal_lines.specs.declared.Turned.{Turned}
 
 -- ---- the centroids of a steady station are numbers
@@ -103,6 +103,14 @@ pub answered-event : (s : Station) (e : Event) (o : Outcome) (v : Shown) → Nex
 answered-event s e o v k q = subst (λ (m : Model.Outcome). Answered (record { begun = true; station = o .station; shown = v }) (called e m)) (k .is) (record { station = refl; shown = q; lives = λ t. k .steady })
 
 -- ---- a line's answer, written
+
+-- a line's answer is written at the front of a buffer, and what stands behind it is left as it was
+pub record Writes (begun : Bool) (s : Station) (put : ℕ) (was is : List ℕ) (t : Turn) : Type 0 where
+  pub station : reading begun s ≡ t .station
+  pub lives : Lives begun s
+  pub long : put ≡ length (line (t .shown))
+  pub room : put ≤ length was
+  pub out : is ≡ line (t .shown) ++ drop (length (line (t .shown))) was
 
 pub shown-written : (begun : Bool) (s : Station) (m : Turn) (v : Shown) (put : ℕ) (was is : List ℕ) → reading begun s ≡ m .station → Lives begun s → v ≡ m .shown
     → (put ≡ length (line v)) × (is ≡ over (line v) was) → length is ≡ length was → Writes begun s put was is m

@@ -21,10 +21,11 @@ use Rattle.journal_lines.specs.declared.Journal.{Journal}
 use Rattle.journal_lines.specs.Journal.{answer}
 use Rattle.journal_lines.specs.Pieces.{feed, within}
 use Rattle.journal_lines.specs.Pieces as Pieces
-use Rattle.journal_lines.specs.Parts.{Advances, Feeds, Gathers, Goes, Writes, newlineAt, reading, takenAt, viewed}
+use Rattle.journal_lines.specs.Parts.{Feeds, Gathers, Goes, newlineAt, reading, takenAt, viewed}
 use Rattle.journal_lines.proofs.Joining.{feed-append}
 use Rattle.journal_lines.proofs.Feeding.{taken-few, taken-some, within-full}
-use Rattle.journal_lines.proofs.Advancing.{advance-part, advance-line}
+use Rattle.journal_lines.proofs.Answering.{Writes}
+use Rattle.journal_lines.proofs.Advancing.{Advances, advance-part, advance-line}
 
 abbrev pub at : Journal → ℕ → ℕ → Fed
 at j used put = record { journal = j; used = used; put = put }

@@ -6,3 +6,4 @@ pub mod Advancing
 pub mod Going
 pub mod Ending
 pub mod Running
+pub mod Examples

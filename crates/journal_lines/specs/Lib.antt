@@ -3,3 +3,4 @@ pub mod Whole
 pub mod Pieces
 pub mod Parts
 pub mod Runs
+pub mod Examples

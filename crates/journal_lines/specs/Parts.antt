@@ -3,7 +3,7 @@ use mathlib.Core.Path.{_≡_}
 use mathlib.Core.Bool.{Bool, true, false, cond}
 use mathlib.Core.List.{List, [], _∷_, _++_}
 use mathlib.Core.Option.{Option, none, some}
-use Prim.Native.Nat.{ℕ, zero, suc, _+_, _-_, _≤_, _<_}
+use Prim.Native.Nat.{ℕ, zero, suc, _≤_}
 use lib.Dec.{eqb}
 use lib.ListN.{length, take, drop}
 use Rattle.station.specs.declared.Station.{Station}
@@ -13,13 +13,12 @@ use Rattle.station_model.specs.Station as Model
 use Rattle.ranges.specs.Settings.{standard}
 use Rattle.line_in.specs.declared.Entry.{Entry}
 use Rattle.line_in.specs.declared.Entry.the-variants.{Watch, Call, Bad}
-use Rattle.line_out.specs.Shown.{line}
 use Rattle.journal_lines.specs.declared.Fed.{Fed}
 use Rattle.journal_lines.specs.declared.Gathered.{Gathered}
 use Rattle.journal_lines.specs.declared.Journal.{Journal}
 use Rattle.journal_lines.specs.declared.Turned.{Turned}
 use Rattle.journal_lines.specs.Journal.{Turn}
-use Rattle.journal_lines.specs.Pieces.{hold, feed, within}
+use Rattle.journal_lines.specs.Pieces.{hold, feed}
 use Rattle.journal_lines.specs.Pieces as Pieces
 
 -- ---- the station of a journal
@@ -93,14 +92,6 @@ pub record Goes (j : Journal) : Type 0 where
   pub long : length (j .held) ≡ 80
   pub few : j .«held_len» ≤ 80
 
--- a line's answer is written at the front of a buffer, and what stands behind it is left as it was
-pub record Writes (begun : Bool) (s : Station) (put : ℕ) (was is : List ℕ) (t : Turn) : Type 0 where
-  pub station : reading begun s ≡ t .station
-  pub lives : Lives begun s
-  pub long : put ≡ length (line (t .shown))
-  pub room : put ≤ length was
-  pub out : is ≡ line (t .shown) ++ drop (length (line (t .shown))) was
-
 -- so many bytes of a piece were fed: the journal, and what was written at the front of the buffer
 pub record Feeds (j : Journal) (piece was is : List ℕ) (r : Fed) : Type 0 where
   pub few : r .used ≤ length piece
@@ -108,10 +99,3 @@ pub record Feeds (j : Journal) (piece was is : List ℕ) (r : Fed) : Type 0 wher
   pub put : r .put ≡ length (feed standard (viewed j) (take (r .used) piece) .put)
   pub out : is ≡ feed standard (viewed j) (take (r .used) piece) .put ++ drop (r .put) was
   pub goes : Goes (r .journal)
-
--- one line of it, or all where no newline is in it: and it goes on from there
-pub record Advances (j : Journal) (piece was is : List ℕ) (r : Fed) : Type 0 where
-  pub feeds : Feeds j piece was is r
-  pub moves : 0 < length piece → 0 < r .used
-  pub room : r .put ≤ length was
-  pub onward : (room : ℕ) → 80 ≤ room → within standard room (viewed j) piece ≡ r .used + within standard (room - r .put) (viewed (r .journal)) (drop (r .used) piece)
