@@ -20,7 +20,7 @@ use Rattle.bank_model.proofs.Ready.{from-ready}
 use Rattle.station_model.specs.declared.Event.{Event}
 use Rattle.station_model.specs.declared.Event.the-variants.{Mark, Gap, Finish, Seed, Hint, Clear, Switch}
 use Rattle.station_model.specs.declared.Code.{Code}
-use Rattle.station_model.specs.declared.Code.the-variants.{Done, BecameReady, Switched, Nothing, Refused}
+use Rattle.station_model.specs.declared.Code.the-variants.{Done, Switched, Nothing, Refused}
 use Rattle.station_model.specs.Station.{Act, ready, liveAct, switchAct, acted, refusal, outcome, step}
 use Rattle.station_model.specs.Station as Model
 use Rattle.station_model.proofs.Lists.{by-cond, in-at}

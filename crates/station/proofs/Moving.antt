@@ -50,11 +50,7 @@ pub idle : (b : Bank) (p : Tracker) (n : ℕ) → b .pending ≡ none → untake
 unfolding takeSwitch
 idle b p n e = by-cond (λ (t : Taken). untaken b p n ≡ t) (on b) (λ x. sym (ap (takenOf b p n) e)) (λ x. refl)
 
--- ---- its answer
-module _ (k : Settings) (m : Model.Station) (d : Float) where
-  pub gap-quiet : (Done ≡ gapAct k m d .code) × (gapAct k m d .told .left ≡ [])
-  gap-quiet = by-cond (λ (a : Act). (Done ≡ a .code) × (a .told .left ≡ [])) (ready (m .primary)) (λ x. (refl, refl)) (λ x. (refl, refl))
-
+-- the answer of a call that none leaves at
 pub none-leave : (s t : Station) (r : Outcome) (a : Act) (c : Code) → (r .answer .code ≡ c) × ((r .station ≡ t) × (r .answer .«left_len» ≡ 0)) → Holds t (accepted (view s) a .station) → c ≡ a .code → a .told .left ≡ [] → Stands r (accepted (view s) a)
 none-leave s t r a c d h e f =
     let q = d .1 .0 in
@@ -64,6 +60,10 @@ none-leave s t r a c d h e f =
       bank = subst (λ (x : Station). Sturdy (x .bank)) (sym q) (h .bank);
       few = let n = d .1 .1 in omega arith;
     }
+
+-- a gap is such a call, and done
+pub gap-quiet : (k : Settings) (m : Model.Station) (d : Float) → (Done ≡ gapAct k m d .code) × (gapAct k m d .told .left ≡ [])
+gap-quiet k m d = by-cond (λ (a : Act). (Done ≡ a .code) × (a .told .left ≡ [])) (ready (m .primary)) (λ x. (refl, refl)) (λ x. (refl, refl))
 
 -- the station of an outcome
 pub stands-holds : (r : Outcome) (m : Model.Outcome) → Stands r m → Holds (r .station) (m .station)

@@ -1,7 +1,6 @@
 -- `station::inner::events::switch` meets its contract. Assumes nothing.
 use mathlib.Core.Path.{refl, ap, _∙_}
 use mathlib.Core.Bool.{cond}
-use Prim.Native.Nat.{ℕ}
 use lib.Dec.{eqb}
 use Rattle.station_model.specs.declared.Code.the-variants.{Switched, Nothing}
 use Rattle.station_model.specs.declared.Event.the-variants.{Switch}
