@@ -27,5 +27,5 @@ unfolding stationAfter step Tracking.onMark bootstrapped threeToOne insert inser
 printed = record { first = refl; second = refl; finish = refl; switch = refl; dit = refl; dah = refl; serial = refl; alone = refl }
 
 pub answers : Answers
-unfolding stationAfter step Tracking.onMark bootstrapped seeded threeToOne elementGaps fromMarks insert insertAll ratios firstLargest locked constrained started narrow sumFrom other onReady onMark clear firstLeast leastPlace without totalLess spawnedAt anyTwin near ofCause logOf lnOf digits size round ofInt toBits ofBits add sub mul div neg lt le isNan eq
-answers = record { endless = refl; empty = refl; longest = refl; still = refl; waits = refl; counts = refl; seeds = refl; again = refl; unfinished = refl; fifth = refl; begun = refl }
+unfolding stationAfter step Tracking.onMark Tracking.onGap bootstrapped seeded threeToOne elementGaps fromMarks insert insertAll ratios firstLargest locked constrained started narrow sumFrom other onReady onMark onGap gapFit fit decayed gapped greatestUnit pausingAt clear firstLeast leastPlace without totalLess spawnedAt anyTwin near ofCause logOf lnOf digits size round ofInt toBits ofBits add sub mul div neg lt le isNan eq
+answers = record { endless = refl; empty = refl; longest = refl; still = refl; waits = refl; counts = refl; unheard = refl; unheld = refl; heard = refl; element = refl; longer = refl; seeds = refl; again = refl; unfinished = refl; fifth = refl; begun = refl }

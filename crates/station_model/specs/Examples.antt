@@ -109,6 +109,13 @@ pub record Answers : Type 0 where
   -- a good gap, or a good mark that is not live, does nothing while the primary is unready; it counts
   pub waits : number (answerTo standard start (Gap (whole 50)) (silent ∷ []) .code) ≡ 0
   pub counts : stationAfter standard start (Gap (whole 50) ∷ silent ∷ Seed (whole 0) ∷ []) .accepted ≡ 2
+  -- "Gap: only with a ready primary": before that the bank counts none, and the primary holds none
+  pub unheard : stationAfter standard start (Gap (whole 10) ∷ []) .bank .gaps ≡ 0
+  pub unheld : stationAfter standard start (Gap (whole 10) ∷ []) .primary .egap ≡ none
+  pub heard : stationAfter standard start (Gap (whole 40) ∷ Seed (whole 60) ∷ []) .bank .gaps ≡ 1
+  -- "if the gap is below 2.0 times its dit estimate": at 60 words a minute that is 20 ms
+  pub element : stationAfter standard start (Gap (whole 39) ∷ Seed (whole 60) ∷ []) .primary .egap ≡ some (whole 39)
+  pub longer : stationAfter standard start (Gap (whole 40) ∷ Seed (whole 60) ∷ []) .primary .egap ≡ none
   -- a seed has code 1 only if the primary was unready
   pub seeds : number (answerTo standard start (Seed (whole 60)) [] .code) ≡ 1
   pub again : number (answerTo standard start (Seed (whole 60)) (Seed (whole 60) ∷ []) .code) ≡ 0
