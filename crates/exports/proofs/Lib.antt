@@ -3,4 +3,5 @@ pub mod Classes
 pub mod Handing
 pub mod Banking
 pub mod Rivals
+pub mod Watches
 pub mod Stations

@@ -52,7 +52,7 @@ quiet-choice s Clear k = refl
 quiet-choice s Switch k = choice-of (s .bank .«has_pending») (s .primary .pair .ready) (s .bank .pending) k
 
 -- so refusal 1 never holds
-quiet-refusal : (s : Station) (e : Event) → T (sound standard s) → Quiet (view s) → callRefusal standard s e ≡ refusal (view s) e
+pub quiet-refusal : (s : Station) (e : Event) → T (sound standard s) → Quiet (view s) → callRefusal standard s e ≡ refusal (view s) e
 quiet-refusal s e t k =
     ap (λ (b : Bool). cond (b && choiceSound s e) (refusal (view s) e) 1) (is-true (sound standard s) t)
     ∙ ap (λ (b : Bool). cond b (refusal (view s) e) 1) (quiet-choice s e k)
@@ -65,7 +65,7 @@ refused-code Codes.Switched n t e = absurd (true≢false t)
 refused-code Codes.Nothing n t e = absurd (true≢false t)
 refused-code (Codes.Refused m) n t e = ap Codes.Refused e
 
-same : {a b : Model.Answer} → a ≡ b → SameAnswer a b
+pub same : {a b : Model.Answer} → a ≡ b → SameAnswer a b
 same {a} {b} e = record { code = ap (λ (x : Model.Answer). x .code) e; departures = subst (λ (x : Model.Answer). List·Permᴰ (a .departures) (x .departures)) e (Permᴰ·refl (a .departures)) }
 
 -- ---- one call
