@@ -3,5 +3,6 @@ pub mod Classes
 pub mod Handing
 pub mod Banking
 pub mod Rivals
-pub mod Stations
 pub mod Watches
+pub mod Promising
+pub mod Stations

@@ -2,7 +2,7 @@
 use mathlib.Core.Path.{_≡_, refl, ap, sym, _∙_, subst}
 use mathlib.Core.Bool.{Bool, true, false, cond, not, _&&_}
 use mathlib.Core.List.{map}
-use mathlib.Core.Option.{Option, none, some}
+use mathlib.Core.Option.{none, some}
 use Prim.Native.Nat.{ℕ}
 use native.Mathlib.Omega.{arith}
 use lib.Dec.{T, leb}
@@ -26,16 +26,17 @@ use Rattle.station.specs.declared.Station.{Station}
 use Rattle.station.specs.declared.Outcome.{Outcome}
 use Rattle.station.specs.View.{view}
 use Rattle.station.specs.Sound.{sound, choiceSound}
-use Rattle.station.specs.Answers.{Begins, Called, Watched, callRefusal}
+use Rattle.station.specs.Answers.{Begins, Called, callRefusal}
 use Rattle.plain.specs.Plain.{plainDeparture}
 use Rattle.plain_station.specs.declared.PlainStation.{PlainStation}
 use Rattle.plain_station.specs.Plain.{plainStation, stationOf, isStation}
 use Rattle.plain_station.proofs.Back.{station-back, station-named}
 use Rattle.exports.specs.declared.of_station.StationAnswered.{StationAnswered}
 use Rattle.exports.specs.Tracker.{code}
-use Rattle.exports.specs.Station.{CallAnswers, Kept, StationAnswers, StationBegins, Stopped, eventOf, formThen, outcomeOn}
+use Rattle.exports.specs.Station.{Kept, StationAnswers, StationBegins, Stopped, eventOf, formThen, outcomeOn}
 use Rattle.exports.proofs.Banking.{left-is}
 use Rattle.exports.proofs.Rivals.{code-unless}
+use Rattle.exports.proofs.Promising.{form-known, form-watched}
 
 -- a kind above 6 is no event's
 pub no-event : (x : Float) (live : Bool) (n : ℕ) → (n ≡ 0 → ⊥) → (n ≡ 1 → ⊥) → (n ≡ 2 → ⊥) → (n ≡ 3 → ⊥) → (n ≡ 4 → ⊥) → (n ≡ 5 → ⊥) → (n ≡ 6 → ⊥) → eventOf x live n ≡ none
@@ -85,7 +86,7 @@ kept-as d e h = record { is = ap isStation e ∙ station-named d; neat = e ∙ s
 -- ---- a form that is a station's
 module _ (p : PlainStation) (i : isStation p ≡ true) where
   known : (n : ℕ) → formThen p n ≡ n
-  known n = rw i
+  known n = form-known p n i
 
   answers : (e : Event) (o : Outcome) → Called standard (stationOf p) e o → StationAnswers (some e) p (outcomeOn p o)
   answers e o h =
@@ -125,11 +126,15 @@ module _ (p : PlainStation) (i : isStation p ≡ false) where
       record { kept = λ z. subst (λ (m : ℕ). Stopped m p r) (sym (barred n)) h; went = never n; still = never n; few = omega arith }
 
 -- ---- a start
+fresh-of : (b : Bool) (width : ℕ) (switching : Bool) → Model.fresh (cond b width 1) (cond b switching false) ≡ cond b (Model.fresh width switching) (Model.fresh 1 false)
+fresh-of true width switching = refl
+fresh-of false width switching = refl
+
 pub begun : (width : ℕ) (switching : Bool) (why : Told) (d : Station) {n : ℕ} {q : PlainStation} → n ≡ code (ofTold why) → q ≡ plainStation d → Begins standard width switching why d → StationBegins width switching (record { code = n; station = q })
 begun width switching why d e f h =
     record {
       says = e ∙ ap code (h .says) ∙ code-unless (widthRefusal width);
       state = ap view (is-back d f) ∙ h .state;
       still = kept-as d f (h .still);
-      watch = subst (Watched standard (cond (leb width widest) width 1) (cond (leb width widest) switching false)) (sym (is-back d f)) (h .watch);
+      watch = form-watched (cond (leb width widest) width 1) (cond (leb width widest) switching false) _ (kept-as d f (h .still)) (ap view (is-back d f) ∙ h .state ∙ sym (fresh-of (leb width widest) width switching));
     }

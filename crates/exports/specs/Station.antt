@@ -6,18 +6,25 @@ use mathlib.Core.Option.{Option, none, some}
 use Prim.Native.Nat.{ℕ, _≤_}
 use lib.Dec.{T, eqb, leb}
 use lib.ListN.{take}
-use lib.Ieee.{Float}
+use lib.Ieee.{Float, binary32, fits}
 use Rattle.ranges.specs.Settings.{standard}
 use Rattle.bank.specs.Parts.{widest}
 use Rattle.bank.specs.Answers.{widthRefusal}
+use Rattle.bank_model.specs.declared.Cause.{Cause}
+use Rattle.bank_model.specs.declared.Cause.the-variants.{Twin, Outscored, Aged, Replaced, Cleared}
+use Rattle.bank_model.specs.declared.Departure.{Departure}
+use Rattle.station_model.specs.declared.Code.{Code}
+use Rattle.station_model.specs.declared.Code.the-variants.{Done, BecameReady, Switched, Nothing, Refused}
 use Rattle.station_model.specs.declared.Event.{Event}
 use Rattle.station_model.specs.declared.Event.the-variants.{Mark, Gap, Finish, Seed, Hint, Clear, Switch}
 use Rattle.station_model.specs.Station.{number, taken, step}
 use Rattle.station_model.specs.Station as Model
+use Rattle.station_model.specs.Watch.{Call, Watch}
 use Rattle.station.specs.declared.Outcome.{Outcome}
 use Rattle.station.specs.View.{view}
 use Rattle.station.specs.Sound.{sound}
-use Rattle.station.specs.Answers.{Watched, callRefusal}
+use Rattle.station.specs.Answers.{callRefusal}
+use Rattle.plain.specs.declared.PlainDeparture.{PlainDeparture}
 use Rattle.plain.specs.Plain.{plainDeparture}
 use Rattle.plain_station.specs.declared.PlainStation.{PlainStation}
 use Rattle.plain_station.specs.Plain.{plainStation, stationOf, isStation}
@@ -81,12 +88,63 @@ abbrev pub StationAnswers : Option Event → PlainStation → StationAnswered �
 StationAnswers (some e) p r = CallAnswers (formThen p (callRefusal standard (stationOf p) e)) p (step standard (view (stationOf p)) e) r
 StationAnswers none p r = Stopped unknown p r
 
--- a start, and what it promises of every list of calls
+-- ---- demand 3, of `hullathan_station_call`
+
+-- the code and the cause that have a number; which numbers an answer has is what `Went` says
+abbrev pub codeOf : Bool → ℕ → Code
+codeOf true n = Refused n
+codeOf false n = cond (eqb n 0) Done (cond (eqb n 1) BecameReady (cond (eqb n 2) Switched Nothing))
+
+abbrev pub causeOf : ℕ → Cause
+causeOf n = cond (eqb n 0) Twin (cond (eqb n 1) Outscored (cond (eqb n 2) Aged (cond (eqb n 3) Replaced Cleared)))
+
+abbrev pub departureOf : PlainDeparture → Departure
+departureOf d = record { serial = d .serial; cause = causeOf (d .cause) }
+
+abbrev pub answerOf : StationAnswered → Model.Answer
+answerOf r = record { code = codeOf (r .refused) (r .code); departures = map departureOf (take (r .«left_len») (r .left)) }
+
+-- one call: what it was handed, and what it returned
+pub record Asking : Type 0 where
+  pub before : PlainStation
+  pub kind : ℕ
+  pub value : Float
+  pub live : Bool
+  pub returned : StationAnswered
+
+abbrev pub asks : Asking → Option Event
+asks c = eventOf (c .value) (c .live) (c .kind)
+
+-- A list of calls, the latest first, each on the form that the one before returned. Of what was returned only the contract is known; the number given is a value of f32.
+unfoldable pub AskedFrom : PlainStation → List Asking → PlainStation → Type 0
+AskedFrom first [] now = now ≡ first
+AskedFrom first (c ∷ earlier) now =
+    AskedFrom first earlier (c .before) × (T (fits binary32 (c .value)) × StationAnswers (asks c) (c .before) (c .returned)) × (now ≡ c .returned .station)
+
+-- the call of an event, on the views
+abbrev pub viewedAs : Asking → Event → Call
+viewedAs c e = record { event = e; answer = answerOf (c .returned); before = view (stationOf (c .before)); after = view (stationOf (c .returned .station)) }
+
+-- one of a kind that no event has is passed over: it hands its form back
+abbrev pub addCall : Option Event → Asking → List Call → List Call
+addCall none c earlier = earlier
+addCall (some e) c earlier = viewedAs c e ∷ earlier
+
+unfoldable pub viewed : List Asking → List Call
+viewed [] = []
+viewed (c ∷ earlier) = addCall (asks c) c (viewed earlier)
+
+-- after every list of calls, the first on this form: demand 3, and the form is a sound station's
+pub record FormWatched (width : ℕ) (switching : Bool) (first : PlainStation) : Type 0 where
+  pub holds : (calls : List Asking) (now : PlainStation) → AskedFrom first calls now → Watch standard width switching (viewed calls) (view (stationOf now))
+  pub stays : (calls : List Asking) (now : PlainStation) → AskedFrom first calls now → Kept now
+
+-- a start, and what it promises of every list of calls of `hullathan_station_call`
 pub record StationBegins (width : ℕ) (switching : Bool) (r : StationStarted) : Type 0 where
   pub says : r .code ≡ widthRefusal width
   pub state : view (stationOf (r .station)) ≡ cond (leb width widest) (Model.fresh width switching) (Model.fresh 1 false)
   pub still : Kept (r .station)
-  pub watch : Watched standard (cond (leb width widest) width 1) (cond (leb width widest) switching false) (stationOf (r .station))
+  pub watch : FormWatched (cond (leb width widest) width 1) (cond (leb width widest) switching false) (r .station)
 
 -- ---- an answer of the library's own as C reads it
 abbrev pub outcomeOn : PlainStation → Outcome → StationAnswered

@@ -65,7 +65,7 @@ refused-code Codes.Switched n t e = absurd (true≢false t)
 refused-code Codes.Nothing n t e = absurd (true≢false t)
 refused-code (Codes.Refused m) n t e = ap Codes.Refused e
 
-same : {a b : Model.Answer} → a ≡ b → SameAnswer a b
+pub same : {a b : Model.Answer} → a ≡ b → SameAnswer a b
 same {a} {b} e = record { code = ap (λ (x : Model.Answer). x .code) e; departures = subst (λ (x : Model.Answer). List·Permᴰ (a .departures) (x .departures)) e (Permᴰ·refl (a .departures)) }
 
 -- ---- one call
