@@ -2,7 +2,6 @@
 use bank::TimingBank;
 use tracker::Flag;
 use tracker::SpeedTracker;
-ghost use mathlib.Core.Path.{_≡_};
 ghost use Rattle.ranges.specs.Settings.{standard};
 ghost use Rattle.tracker.specs.Model as Tracked;
 ghost use Rattle.bank_model.specs.Steps.{takeSwitch};
