@@ -3,6 +3,7 @@ pub mod Classes
 pub mod Handing
 pub mod Banking
 pub mod Rivals
+pub mod Lending
 pub mod Watches
 pub mod Promising
 pub mod Stations

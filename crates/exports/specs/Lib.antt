@@ -2,4 +2,5 @@ pub mod Answers
 pub mod Sender
 pub mod Tracker
 pub mod Bank
+pub mod Lent
 pub mod Station

@@ -2,6 +2,7 @@
 // A module for each layer, named `of_` and the layer's crate.
 pub mod inner;
 pub mod of_bank;
+pub mod of_lent;
 pub mod of_numbers;
 pub mod of_sender;
 pub mod of_station;
