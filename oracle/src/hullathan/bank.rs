@@ -112,6 +112,16 @@ pub struct Logged {
     pub record: Record,
 }
 
+/// The answer of a switch call but for the primary, which is found in the tracker that was lent.
+#[repr(C)]
+#[derive(Debug, Clone, Copy)]
+pub struct Lent {
+    pub code: u8,
+    pub yes: bool,
+    pub bank: Bank,
+    pub serial: u64,
+}
+
 /// A bank after an inner call, and those that left it.
 #[repr(C)]
 #[derive(Debug, Clone, Copy)]
@@ -156,6 +166,7 @@ mod c {
             live: bool,
         ) -> Answered;
         pub fn hullathan_bank_take_switch(b: Bank, p: SpeedTracker, serial: u64) -> Switched;
+        pub fn hullathan_bank_take_switch_lent(b: Bank, p: *mut SpeedTracker, serial: u64) -> Lent;
         pub fn hullathan_inner_bank_on_gap(b: Bank, p: SpeedTracker, dur_ms: f32) -> Bank;
         pub fn hullathan_inner_bank_on_mark(
             b: Bank,
@@ -168,7 +179,8 @@ mod c {
     }
 }
 
-// Safety of each public call: the library is proved to take every number, and reads of what is lent to it only the list's entries.
+// Safety of each public call: the library is proved to take every number, and reads and writes of what is lent to it only the list's
+// entries and the tracker.
 
 pub fn new(width: usize, switching: bool) -> Heard {
     unsafe { c::hullathan_bank_new(width, switching) }
@@ -212,6 +224,11 @@ pub fn on_mark(b: Bank, p: SpeedTracker, dur_ms: f32, live: bool) -> Answered {
 
 pub fn take_switch(b: Bank, p: SpeedTracker, serial: u64) -> Switched {
     unsafe { c::hullathan_bank_take_switch(b, p, serial) }
+}
+
+/// The switch call with the primary lent.
+pub fn take_switch_lent(b: Bank, p: &mut SpeedTracker, serial: u64) -> Lent {
+    unsafe { c::hullathan_bank_take_switch_lent(b, p, serial) }
 }
 
 /// The bank as it was handed in, over the library's own form.

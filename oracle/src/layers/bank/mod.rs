@@ -321,6 +321,9 @@ impl Both {
             .err()
             .unwrap_or(0);
         agree(call, "the code", back.code, code)?;
+        if matches!(call, Call::Switch) {
+            self.lent(call, &back)?;
+        }
         if code != 0 {
             return self.refused(call, back);
         }
@@ -349,6 +352,33 @@ impl Both {
             },
             left: expected.left,
         })
+    }
+
+    /// The same switch call with the primary lent: its answer, and both whole states.
+    fn lent(&self, call: &Call, back: &Back) -> Result<(), Difference> {
+        let mut primary = self.primary.ours;
+        let r = ours::take_switch_lent(self.ours, &mut primary, self.serial);
+        let told = (r.code, r.yes, r.serial);
+        agree(
+            call,
+            "lent: the answer",
+            told,
+            (back.code, back.yes, back.serial),
+        )?;
+        let bank = state::identical(&r.bank, &back.bank);
+        agree(
+            call,
+            "lent: the bank is that of the call by value",
+            bank,
+            true,
+        )?;
+        let found = tracker::identical(&primary, &back.primary);
+        agree(
+            call,
+            "lent: the primary is found in the lent tracker",
+            found,
+            true,
+        )
     }
 
     /// A refused call hands back what it was handed.
