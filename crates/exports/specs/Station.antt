@@ -90,7 +90,7 @@ StationAnswers none p r = Stopped unknown p r
 
 -- ---- demand 3, of `hullathan_station_call`
 
--- the code and the cause that have a number; which numbers an answer has is what `Went` says
+-- the code and the cause that have a number; which numbers an answer has is what `Went` and `Stopped` say
 abbrev pub codeOf : Bool → ℕ → Code
 codeOf true n = Refused n
 codeOf false n = cond (eqb n 0) Done (cond (eqb n 1) BecameReady (cond (eqb n 2) Switched Nothing))

@@ -18,7 +18,7 @@ ghost use Rattle.plain.specs.Plain.{bankOf};
 ghost use Rattle.exports.specs.Bank.{BankSwitches, plainThen};
 ghost use Rattle.exports.specs.Lent.{ReadAs, found, lentOn};
 
-// The answer of a switch call but for the primary: whether the two were exchanged.
+// The answer of a switch call but for the primary: whether the two were exchanged, the bank, and the primary's serial.
 #[repr(C)]
 pub struct BankLent {
     pub code: u8,

@@ -60,7 +60,7 @@ unfoldable pub keeps : List ℕ → List ℕ → List ℕ
 keeps h [] = h
 keeps h (b ∷ l) = cond (eqb b 10) h (keeps (hold h b) l)
 
--- the same three, where so many lines may still be read: where none may, all bytes are taken and none is held
+-- the same three, where so many lines may still be read: where none may, all bytes are taken and no more are held
 abbrev pub takenAt : ℕ → List ℕ → ℕ
 takenAt zero l = length l
 takenAt (suc n) l = upToNewline l

@@ -1,5 +1,4 @@
-// The station after a call, changed in place, and the call's code from little that was read before and after it: for callers that hold
-// one station in a loop.
+// What an event makes of a station: functions from a station to a station, each of which changes one copy. Hint, gap and switch of `events` stand on them.
 use crate::Station;
 use crate::inner::events::clear_all;
 use crate::inner::events::finish;
