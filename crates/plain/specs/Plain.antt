@@ -1,17 +1,21 @@
--- What the plain form of a bank means: numbers for where a hypothesis came from and why it left. Definitions only.
-use mathlib.Core.Bool.{Bool, cond}
-use mathlib.Core.List.{map}
+-- What the plain form of a bank means: numbers for where a hypothesis came from and why it left, and for flags. Definitions only.
+use mathlib.Core.Bool.{Bool, false, cond, _&&_}
 use Prim.Native.Nat.{ℕ}
 use lib.Dec.{eqb, leb}
 use lib.ListN.{take}
+use Rattle.ranges.specs.Limits.{nought}
 use Rattle.marks.specs.Lists.{all}
+use Rattle.tracker.specs.Parts.{blank}
 use Rattle.bank_model.specs.declared.Origin.{Origin}
 use Rattle.bank_model.specs.declared.Origin.the-variants.{Bootstrap, Streak, FormerPrimary}
 use Rattle.bank_model.specs.declared.Cause.{Cause}
 use Rattle.bank_model.specs.declared.Cause.the-variants.{Twin, Outscored, Aged, Replaced, Cleared}
 use Rattle.bank_model.specs.declared.Departure.{Departure}
+use Rattle.bank_model.specs.declared.SwitchRecord.{SwitchRecord}
 use Rattle.rival.specs.declared.TimingHypothesis.{TimingHypothesis}
 use Rattle.bank.specs.declared.TimingBank.{TimingBank}
+use Rattle.plain_tracker.specs.Plain.{asFlag, asNumber, isFlag, carried, plainTracker, trackerOf, isTracker}
+use Rattle.plain.specs.declared.PlainRecord.{PlainRecord}
 use Rattle.plain.specs.declared.PlainHypothesis.{PlainHypothesis}
 use Rattle.plain.specs.declared.PlainBank.{PlainBank}
 use Rattle.plain.specs.declared.PlainDeparture.{PlainDeparture}
@@ -40,16 +44,18 @@ causeCode Aged = 2
 causeCode Replaced = 3
 causeCode Cleared = 4
 
+-- ---- a challenger
+
 abbrev pub plainHyp : TimingHypothesis → PlainHypothesis
 plainHyp h = record {
-  tracker = h .tracker;
+  tracker = plainTracker (h .tracker);
   score = h .score;
   «gap_score» = h .«gap_score»;
   «lead_marks» = h .«lead_marks»;
   «age_marks» = h .«age_marks»;
   origin = originCode (h .origin);
   «retain_marks» = retained (h .origin);
-  reported = h .reported;
+  reported = asNumber (h .reported);
   «ln_lo» = h .«ln_lo»;
   «ln_hi» = h .«ln_hi»;
   serial = h .serial;
@@ -57,39 +63,80 @@ plainHyp h = record {
 
 abbrev pub hypOf : PlainHypothesis → TimingHypothesis
 hypOf p = record {
-  tracker = p .tracker;
+  tracker = trackerOf (p .tracker);
   score = p .score;
   «gap_score» = p .«gap_score»;
   «lead_marks» = p .«lead_marks»;
   «age_marks» = p .«age_marks»;
   origin = originOf (p .origin) (p .«retain_marks»);
-  reported = p .reported;
+  reported = asFlag (p .reported);
   «ln_lo» = p .«ln_lo»;
   «ln_hi» = p .«ln_hi»;
   serial = p .serial;
 }
 
+-- a number that an origin has, and flags
+abbrev pub isHyp : PlainHypothesis → Bool
+isHyp p = leb (p .origin) 2 && (isFlag (p .reported) && isTracker (p .tracker))
+
+-- places that hold none
+abbrev pub noHyp : TimingHypothesis
+noHyp = record {
+  tracker = blank;
+  score = nought;
+  «gap_score» = nought;
+  «lead_marks» = 0;
+  «age_marks» = 0;
+  origin = Bootstrap;
+  reported = false;
+  «ln_lo» = nought;
+  «ln_hi» = nought;
+  serial = 0;
+}
+
+abbrev pub blankHyp : PlainHypothesis
+blankHyp = plainHyp noHyp
+
+-- ---- a switch record
+
+abbrev pub plainRecord : SwitchRecord → PlainRecord
+plainRecord s = record { «mark_index» = s .«mark_index»; «from_dit_ms» = s .«from_dit_ms»; «to_dit_ms» = s .«to_dit_ms»; applied = asNumber (s .applied) }
+
+abbrev pub recordOf : PlainRecord → SwitchRecord
+recordOf p = record { «mark_index» = p .«mark_index»; «from_dit_ms» = p .«from_dit_ms»; «to_dit_ms» = p .«to_dit_ms»; applied = asFlag (p .applied) }
+
+abbrev pub isRecord : PlainRecord → Bool
+isRecord p = isFlag (p .applied)
+
+abbrev pub noRecord : SwitchRecord
+noRecord = record { «mark_index» = 0; «from_dit_ms» = nought; «to_dit_ms» = nought; applied = false }
+
+abbrev pub blankRecord : PlainRecord
+blankRecord = plainRecord noRecord
+
+-- ---- the bank: "Places beyond a count and numbers marked absent are no part of a state", so places beyond a count are left empty
+
 abbrev pub plainBank : TimingBank → PlainBank
 plainBank b = record {
   width = b .width;
-  switching = b .switching;
+  switching = asNumber (b .switching);
   «primary_score» = b .«primary_score»;
   «primary_gap_score» = b .«primary_gap_score»;
-  challengers = map plainHyp (b .challengers);
+  challengers = carried plainHyp blankHyp (b .«challengers_len») (b .challengers);
   «challengers_len» = b .«challengers_len»;
   streak = b .streak;
   «streak_len» = b .«streak_len»;
   «streak_gaps» = b .«streak_gaps»;
   «streak_gaps_len» = b .«streak_gaps_len»;
-  «has_side» = b .«has_side»;
-  «streak_side» = b .«streak_side»;
-  «has_last_gap» = b .«has_last_gap»;
+  «has_side» = asNumber (b .«has_side»);
+  «streak_side» = asNumber (b .«streak_side»);
+  «has_last_gap» = asNumber (b .«has_last_gap»);
   «last_gap» = b .«last_gap»;
   «marks_seen» = b .«marks_seen»;
   «gaps_seen» = b .«gaps_seen»;
-  «has_pending» = b .«has_pending»;
+  «has_pending» = asNumber (b .«has_pending»);
   pending = b .pending;
-  log = b .log;
+  log = carried plainRecord blankRecord (b .«log_len») (b .log);
   «log_len» = b .«log_len»;
   started = b .started;
 }
@@ -97,35 +144,50 @@ plainBank b = record {
 abbrev pub bankOf : PlainBank → TimingBank
 bankOf p = record {
   width = p .width;
-  switching = p .switching;
+  switching = asFlag (p .switching);
   «primary_score» = p .«primary_score»;
   «primary_gap_score» = p .«primary_gap_score»;
-  challengers = map hypOf (p .challengers);
+  challengers = carried hypOf noHyp (p .«challengers_len») (p .challengers);
   «challengers_len» = p .«challengers_len»;
   streak = p .streak;
   «streak_len» = p .«streak_len»;
   «streak_gaps» = p .«streak_gaps»;
   «streak_gaps_len» = p .«streak_gaps_len»;
-  «has_side» = p .«has_side»;
-  «streak_side» = p .«streak_side»;
-  «has_last_gap» = p .«has_last_gap»;
+  «has_side» = asFlag (p .«has_side»);
+  «streak_side» = asFlag (p .«streak_side»);
+  «has_last_gap» = asFlag (p .«has_last_gap»);
   «last_gap» = p .«last_gap»;
   «marks_seen» = p .«marks_seen»;
   «gaps_seen» = p .«gaps_seen»;
-  «has_pending» = p .«has_pending»;
+  «has_pending» = asFlag (p .«has_pending»);
   pending = p .pending;
-  log = p .log;
+  log = carried recordOf noRecord (p .«log_len») (p .log);
   «log_len» = p .«log_len»;
   started = p .started;
 }
 
--- a number that an origin has
-abbrev pub named : PlainHypothesis → Bool
-named p = leb (p .origin) 2
+-- ---- whether a plain form is that of a bank
 
--- whether a plain form is that of a bank: "Places beyond a count .. are no part of a state"
-unfoldable pub isBank : PlainBank → Bool
-isBank p = all named (take (p .«challengers_len») (p .challengers))
+-- a flag, and where it says yes another one
+abbrev pub isSide : ℕ → ℕ → Bool
+isSide has side = cond (eqb has 1) (isFlag side) (eqb has 0)
+
+abbrev pub areFlags : PlainBank → Bool
+areFlags p = (isFlag (p .switching) && isSide (p .«has_side») (p .«streak_side»)) && (isFlag (p .«has_last_gap») && isFlag (p .«has_pending»))
+
+unfoldable pub isCrew : PlainBank → Bool
+isCrew p = all isHyp (take (p .«challengers_len») (p .challengers))
+
+unfoldable pub isLog : PlainBank → Bool
+isLog p = all isRecord (take (p .«log_len») (p .log))
+
+abbrev pub isBank : PlainBank → Bool
+isBank p = areFlags p && (isCrew p && isLog p)
+
+-- ---- those that left
 
 abbrev pub plainDeparture : Departure → PlainDeparture
 plainDeparture d = record { serial = d .serial; cause = causeCode (d .cause) }
+
+abbrev pub noDeparture : PlainDeparture
+noDeparture = record { serial = 0; cause = 0 }

@@ -1,15 +1,21 @@
-// From a plain form to its bank.
+// From a plain form to its bank. Of a list that has a count only what is within it is carried over; what lies beyond is empty.
 use crate::PlainBank;
 use crate::PlainHypothesis;
+use crate::PlainRecord;
 use crate::Unplain;
+use crate::is::is_bank;
 use bank::TimingBank;
 use bank_model::Origin;
+use bank_model::SwitchRecord;
+use plain_tracker::from::flag_of;
+use plain_tracker::from::tracker_of;
 use rival::TimingHypothesis;
+use tracker::SpeedTracker;
 ghost use mathlib.Core.Path.{_≡_};
-ghost use mathlib.Core.List.{map};
 ghost use mathlib.Core.Bool.{cond};
 ghost use lib.Dec.{leb};
-ghost use Rattle.plain.specs.Plain.{originOf, hypOf, bankOf, isBank};
+ghost use Rattle.plain_tracker.specs.Plain.{carried};
+ghost use Rattle.plain.specs.Plain.{originOf, hypOf, noHyp, recordOf, noRecord, bankOf, isBank};
 
 // Where a hypothesis came from, by its number; one that means nothing is read as 0.
 pub(crate) fn origin_of(n: u8, retain_marks: u32) -> Origin
@@ -26,7 +32,8 @@ pub(crate) fn origin_of(n: u8, retain_marks: u32) -> Origin
 pub fn hypothesis_of(p: PlainHypothesis) -> TimingHypothesis
     ensures { λ r. ⌜ r ≡ hypOf p ⌝ }
 {
-    let tracker = p.tracker;
+    let t = p.tracker;
+    let tracker = tracker_of(t);
     let origin = origin_of(p.origin, p.retain_marks);
     TimingHypothesis {
         tracker,
@@ -35,71 +42,108 @@ pub fn hypothesis_of(p: PlainHypothesis) -> TimingHypothesis
         lead_marks: p.lead_marks,
         age_marks: p.age_marks,
         origin,
-        reported: p.reported,
+        reported: flag_of(p.reported),
         ln_lo: p.ln_lo,
         ln_hi: p.ln_hi,
         serial: p.serial,
     }
 }
 
+// A place that holds no challenger.
+pub fn no_hypothesis() -> TimingHypothesis
+    ensures { λ r. ⌜ r ≡ noHyp ⌝ }
+{
+    let tracker = SpeedTracker::new();
+    TimingHypothesis {
+        tracker,
+        score: 0.0,
+        gap_score: 0.0,
+        lead_marks: 0,
+        age_marks: 0,
+        origin: Origin::Bootstrap,
+        reported: false,
+        ln_lo: 0.0,
+        ln_hi: 0.0,
+        serial: 0,
+    }
+}
+
+// A count, at most k.
+pub(crate) fn capped(n: usize, k: usize) -> usize
+    ensures { λ r. ⌜ r ≡ cond (leb n k) n k ⌝ }
+{
+    if n <= k { n } else { k }
+}
+
 // The challengers.
 pub(crate) fn all_of(p: PlainBank) -> [TimingHypothesis; 8]
-    ensures { λ r. ⌜ r ≡ map hypOf (p .challengers) ⌝ }
+    ensures { λ r. ⌜ r ≡ carried hypOf noHyp (p .«challengers_len») (p .challengers) ⌝ }
 {
-    let first = p.challengers[0];
-    let h = hypothesis_of(first);
-    let mut out = [h; 8];
+    let n = capped(p.challengers_len, 8);
+    let z = no_hypothesis();
+    let mut out = [z; 8];
     let mut i: usize = 0;
-    while i < 8 {
-        let q = p.challengers[i];
-        let g = hypothesis_of(q);
-        out[i] = g;
+    while i < n {
+        let h = p.challengers[i];
+        let q = hypothesis_of(h);
+        out[i] = q;
         i += 1;
     }
     out
 }
 
-// A count, at most 8.
-pub(crate) fn capped(n: usize) -> usize
-    ensures { λ r. ⌜ r ≡ cond (leb n 8) n 8 ⌝ }
+// A switch record.
+pub fn record_of(p: PlainRecord) -> SwitchRecord
+    ensures { λ r. ⌜ r ≡ recordOf p ⌝ }
 {
-    if n <= 8 { n } else { 8 }
+    SwitchRecord {
+        mark_index: p.mark_index,
+        from_dit_ms: p.from_dit_ms,
+        to_dit_ms: p.to_dit_ms,
+        applied: flag_of(p.applied),
+    }
 }
 
-// Whether an origin has the number.
-pub(crate) fn is_named(n: u8) -> bool
-    ensures { λ r. ⌜ r ≡ leb n 2 ⌝ }
+// A place that holds no switch record.
+pub(crate) fn no_record() -> SwitchRecord
+    ensures { λ r. ⌜ r ≡ noRecord ⌝ }
 {
-    n <= 2
+    SwitchRecord {
+        mark_index: 0,
+        from_dit_ms: 0.0,
+        to_dit_ms: 0.0,
+        applied: false,
+    }
 }
 
-// Whether each challenger has an origin: what lies beyond the count is no part of a bank.
-pub(crate) fn is_bank(p: PlainBank) -> bool
-    ensures { λ r. ⌜ r ≡ isBank p ⌝ }
+// The log.
+pub(crate) fn log_of(p: PlainBank) -> [SwitchRecord; 16]
+    ensures { λ r. ⌜ r ≡ carried recordOf noRecord (p .«log_len») (p .log) ⌝ }
 {
-    let n = capped(p.challengers_len);
+    let n = capped(p.log_len, 16);
+    let z = no_record();
+    let mut out = [z; 16];
     let mut i: usize = 0;
     while i < n {
-        let h = p.challengers[i];
+        let s = p.log[i];
+        let q = record_of(s);
+        out[i] = q;
         i += 1;
-        if !is_named(h.origin) {
-            return false;
-        }
     }
-    true
+    out
 }
 
-// The bank of a plain form, and whether it is one.
-pub fn bank_of(p: PlainBank) -> Unplain
-    ensures { λ r. ⌜ (r .is ≡ isBank p) × (r .bank ≡ bankOf p) ⌝ }
+// The bank of a plain form.
+pub fn bank_from(p: PlainBank) -> TimingBank
+    ensures { λ r. ⌜ r ≡ bankOf p ⌝ }
 {
-    let challengers = all_of(p);
     let streak = p.streak;
     let streak_gaps = p.streak_gaps;
-    let log = p.log;
-    let bank = TimingBank {
+    let challengers = all_of(p);
+    let log = log_of(p);
+    TimingBank {
         width: p.width,
-        switching: p.switching,
+        switching: flag_of(p.switching),
         primary_score: p.primary_score,
         primary_gap_score: p.primary_gap_score,
         challengers,
@@ -108,18 +152,25 @@ pub fn bank_of(p: PlainBank) -> Unplain
         streak_len: p.streak_len,
         streak_gaps,
         streak_gaps_len: p.streak_gaps_len,
-        has_side: p.has_side,
-        streak_side: p.streak_side,
-        has_last_gap: p.has_last_gap,
+        has_side: flag_of(p.has_side),
+        streak_side: flag_of(p.streak_side),
+        has_last_gap: flag_of(p.has_last_gap),
         last_gap: p.last_gap,
         marks_seen: p.marks_seen,
         gaps_seen: p.gaps_seen,
-        has_pending: p.has_pending,
+        has_pending: flag_of(p.has_pending),
         pending: p.pending,
         log,
         log_len: p.log_len,
         started: p.started,
-    };
+    }
+}
+
+// The bank of a plain form, and whether it is one.
+pub fn bank_of(p: PlainBank) -> Unplain
+    ensures { λ r. ⌜ (r .is ≡ isBank p) × (r .bank ≡ bankOf p) ⌝ }
+{
+    let bank = bank_from(p);
     Unplain {
         is: is_bank(p),
         bank,

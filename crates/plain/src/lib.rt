@@ -1,32 +1,41 @@
-// A bank with numbers in place of enums, as a host in C or Rust holds it, and the way there and back.
+// A bank with numbers in place of enums and flags, as a host in C or Rust holds it, and the way there and back. A flag is 0 or 1.
 use bank::TimingBank;
-use bank_model::SwitchRecord;
-use tracker::SpeedTracker;
+use plain_tracker::PlainTracker;
 
 pub mod from;
+pub mod is;
 pub mod to;
 
 // One challenger: where it came from is a number, 0 the bootstrap, 1 a streak, 2 a former primary, and the marks of protection left.
 #[repr(C)]
 pub struct PlainHypothesis {
-    pub tracker: SpeedTracker,
+    pub tracker: PlainTracker,
     pub score: f32,
     pub gap_score: f32,
     pub lead_marks: u32,
     pub age_marks: u32,
     pub origin: u8,
     pub retain_marks: u32,
-    pub reported: bool,
+    pub reported: u8,
     pub ln_lo: f32,
     pub ln_hi: f32,
     pub serial: u64,
+}
+
+// One switch that the bank made, or would have made: the fields of `SwitchRecord`.
+#[repr(C)]
+pub struct PlainRecord {
+    pub mark_index: u64,
+    pub from_dit_ms: f32,
+    pub to_dit_ms: f32,
+    pub applied: u8,
 }
 
 // A bank: the fields of `TimingBank`.
 #[repr(C)]
 pub struct PlainBank {
     pub width: usize,
-    pub switching: bool,
+    pub switching: u8,
     pub primary_score: f32,
     pub primary_gap_score: f32,
     pub challengers: [PlainHypothesis; 8],
@@ -35,15 +44,15 @@ pub struct PlainBank {
     pub streak_len: usize,
     pub streak_gaps: [f32; 4],
     pub streak_gaps_len: usize,
-    pub has_side: bool,
-    pub streak_side: bool,
-    pub has_last_gap: bool,
+    pub has_side: u8,
+    pub streak_side: u8,
+    pub has_last_gap: u8,
     pub last_gap: f32,
     pub marks_seen: u64,
     pub gaps_seen: u64,
-    pub has_pending: bool,
+    pub has_pending: u8,
     pub pending: usize,
-    pub log: [SwitchRecord; 16],
+    pub log: [PlainRecord; 16],
     pub log_len: usize,
     pub started: u64,
 }

@@ -1,16 +1,22 @@
-// From a bank to its plain form. Every place is carried over, those beyond a count too.
+// From a bank to its plain form. Of a list that has a count only what is within it is carried over; what lies beyond is empty.
 use crate::PlainBank;
 use crate::PlainDeparture;
 use crate::PlainHypothesis;
+use crate::PlainRecord;
+use crate::from::capped;
+use crate::from::no_hypothesis;
+use crate::from::no_record;
 use bank::TimingBank;
 use bank_model::Cause;
 use bank_model::Departure;
 use bank_model::Origin;
+use bank_model::SwitchRecord;
+use plain_tracker::to::number_of;
+use plain_tracker::to::plain_tracker;
 use rival::TimingHypothesis;
 ghost use mathlib.Core.Path.{_≡_};
-ghost use mathlib.Core.List.{map};
-ghost use lib.ListN.{length};
-ghost use Rattle.plain.specs.Plain.{originCode, retained, causeCode, plainHyp, plainBank, plainDeparture};
+ghost use Rattle.plain_tracker.specs.Plain.{carried};
+ghost use Rattle.plain.specs.Plain.{originCode, retained, causeCode, plainHyp, blankHyp, plainRecord, blankRecord, plainBank, plainDeparture, noDeparture};
 
 // Where a hypothesis came from, as a number.
 pub(crate) fn origin_code(o: Origin) -> u8
@@ -38,8 +44,9 @@ pub(crate) fn retain_marks(o: Origin) -> u32
 pub fn plain_hypothesis(h: TimingHypothesis) -> PlainHypothesis
     ensures { λ r. ⌜ r ≡ plainHyp h ⌝ }
 {
-    let tracker = h.tracker;
     let o = h.origin;
+    let t = h.tracker;
+    let tracker = plain_tracker(t);
     PlainHypothesis {
         tracker,
         score: h.score,
@@ -48,24 +55,67 @@ pub fn plain_hypothesis(h: TimingHypothesis) -> PlainHypothesis
         age_marks: h.age_marks,
         origin: origin_code(o),
         retain_marks: retain_marks(o),
-        reported: h.reported,
+        reported: number_of(h.reported),
         ln_lo: h.ln_lo,
         ln_hi: h.ln_hi,
         serial: h.serial,
     }
 }
 
+// A place that holds no challenger.
+pub fn blank_hypothesis() -> PlainHypothesis
+    ensures { λ r. ⌜ r ≡ blankHyp ⌝ }
+{
+    plain_hypothesis(no_hypothesis())
+}
+
 // The challengers.
 pub(crate) fn plain_all(b: TimingBank) -> [PlainHypothesis; 8]
-    ensures { λ r. ⌜ r ≡ map plainHyp (b .challengers) ⌝ }
+    ensures { λ r. ⌜ r ≡ carried plainHyp blankHyp (b .«challengers_len») (b .challengers) ⌝ }
 {
-    let first = b.challengers[0];
-    let p = plain_hypothesis(first);
-    let mut out = [p; 8];
+    let n = capped(b.challengers_len, 8);
+    let z = blank_hypothesis();
+    let mut out = [z; 8];
     let mut i: usize = 0;
-    while i < 8 {
+    while i < n {
         let h = b.challengers[i];
         let q = plain_hypothesis(h);
+        out[i] = q;
+        i += 1;
+    }
+    out
+}
+
+// A switch record.
+pub fn plain_record(s: SwitchRecord) -> PlainRecord
+    ensures { λ r. ⌜ r ≡ plainRecord s ⌝ }
+{
+    PlainRecord {
+        mark_index: s.mark_index,
+        from_dit_ms: s.from_dit_ms,
+        to_dit_ms: s.to_dit_ms,
+        applied: number_of(s.applied),
+    }
+}
+
+// A place that holds no switch record.
+pub(crate) fn blank_record() -> PlainRecord
+    ensures { λ r. ⌜ r ≡ blankRecord ⌝ }
+{
+    plain_record(no_record())
+}
+
+// The log.
+pub(crate) fn plain_log(b: TimingBank) -> [PlainRecord; 16]
+    ensures { λ r. ⌜ r ≡ carried plainRecord blankRecord (b .«log_len») (b .log) ⌝ }
+{
+    let n = capped(b.log_len, 16);
+    let z = blank_record();
+    let mut out = [z; 16];
+    let mut i: usize = 0;
+    while i < n {
+        let s = b.log[i];
+        let q = plain_record(s);
         out[i] = q;
         i += 1;
     }
@@ -76,13 +126,13 @@ pub(crate) fn plain_all(b: TimingBank) -> [PlainHypothesis; 8]
 pub fn plain_bank(b: TimingBank) -> PlainBank
     ensures { λ r. ⌜ r ≡ plainBank b ⌝ }
 {
-    let challengers = plain_all(b);
     let streak = b.streak;
     let streak_gaps = b.streak_gaps;
-    let log = b.log;
+    let challengers = plain_all(b);
+    let log = plain_log(b);
     PlainBank {
         width: b.width,
-        switching: b.switching,
+        switching: number_of(b.switching),
         primary_score: b.primary_score,
         primary_gap_score: b.primary_gap_score,
         challengers,
@@ -91,13 +141,13 @@ pub fn plain_bank(b: TimingBank) -> PlainBank
         streak_len: b.streak_len,
         streak_gaps,
         streak_gaps_len: b.streak_gaps_len,
-        has_side: b.has_side,
-        streak_side: b.streak_side,
-        has_last_gap: b.has_last_gap,
+        has_side: number_of(b.has_side),
+        streak_side: number_of(b.streak_side),
+        has_last_gap: number_of(b.has_last_gap),
         last_gap: b.last_gap,
         marks_seen: b.marks_seen,
         gaps_seen: b.gaps_seen,
-        has_pending: b.has_pending,
+        has_pending: number_of(b.has_pending),
         pending: b.pending,
         log,
         log_len: b.log_len,
@@ -129,15 +179,25 @@ pub fn plain_departure(d: Departure) -> PlainDeparture
     }
 }
 
-// Those that left in a call.
-pub fn plain_departures(left: [Departure; 9]) -> [PlainDeparture; 9]
-    ensures { λ r. ⌜ r ≡ map plainDeparture left ⌝ }
+// A place that holds no departure.
+pub fn no_departure() -> PlainDeparture
+    ensures { λ r. ⌜ r ≡ noDeparture ⌝ }
 {
-    let first = left[0];
-    let p = plain_departure(first);
-    let mut out = [p; 9];
+    PlainDeparture {
+        serial: 0,
+        cause: 0,
+    }
+}
+
+// The first count of those that left in a call.
+pub fn plain_departures(left: [Departure; 9], count: usize) -> [PlainDeparture; 9]
+    ensures { λ r. ⌜ r ≡ carried plainDeparture noDeparture count left ⌝ }
+{
+    let n = capped(count, 9);
+    let z = no_departure();
+    let mut out = [z; 9];
     let mut i: usize = 0;
-    while i < 9 {
+    while i < n {
         let d = left[i];
         let q = plain_departure(d);
         out[i] = q;

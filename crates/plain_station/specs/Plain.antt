@@ -1,12 +1,13 @@
--- What the plain form of a station means: that of its bank, and the counts by cause one by one. Definitions only.
-use mathlib.Core.Bool.{Bool}
+-- What the plain form of a station means: that of its primary and of its bank, and the counts by cause one by one. Definitions only.
+use mathlib.Core.Bool.{Bool, _&&_}
+use Rattle.plain_tracker.specs.Plain.{plainTracker, trackerOf, isTracker}
 use Rattle.plain.specs.Plain.{plainBank, bankOf, isBank}
 use Rattle.station.specs.declared.Station.{Station}
 use Rattle.plain_station.specs.declared.PlainStation.{PlainStation}
 
 abbrev pub plainStation : Station → PlainStation
 plainStation s = record {
-  primary = s .primary;
+  primary = plainTracker (s .primary);
   serial = s .serial;
   bank = plainBank (s .bank);
   twins = s .counts .twins;
@@ -19,13 +20,13 @@ plainStation s = record {
 
 abbrev pub stationOf : PlainStation → Station
 stationOf p = record {
-  primary = p .primary;
+  primary = trackerOf (p .primary);
   serial = p .serial;
   bank = bankOf (p .bank);
   counts = record { twins = p .twins; outscored = p .outscored; aged = p .aged; replaced = p .replaced; cleared = p .cleared };
   accepted = p .accepted;
 }
 
--- whether a plain form is that of a station: its bank's is that of a bank
+-- whether a plain form is that of a station: its primary's is that of a tracker, and its bank's that of a bank
 abbrev pub isStation : PlainStation → Bool
-isStation p = isBank (p .bank)
+isStation p = isTracker (p .primary) && isBank (p .bank)

@@ -1,20 +1,33 @@
 // From a plain form to its station.
 use crate::PlainStation;
 use crate::Unplain;
-use plain::from::bank_of;
+use plain::from::bank_from;
+use plain::is::is_bank;
+use plain_tracker::from::tracker_of;
+use plain_tracker::is::both;
+use plain_tracker::is::is_tracker;
 use station::Station;
 use station_model::Counts;
 ghost use mathlib.Core.Path.{_≡_};
 ghost use Rattle.plain_station.specs.Plain.{isStation, stationOf};
 
-// The station of a plain form, and whether it is one.
-pub fn station_of(p: PlainStation) -> Unplain
-    ensures { λ r. ⌜ (r .is ≡ isStation p) × (r .station ≡ stationOf p) ⌝ }
+// Whether a plain form is a station's.
+pub(crate) fn is_station(p: PlainStation) -> bool
+    ensures { λ r. ⌜ r ≡ isStation p ⌝ }
 {
-    let primary = p.primary;
+    let t = p.primary;
     let b = p.bank;
-    let u = bank_of(b);
-    let bank = u.bank;
+    both(is_tracker(t), is_bank(b))
+}
+
+// The station of a plain form.
+pub(crate) fn station_from(p: PlainStation) -> Station
+    ensures { λ r. ⌜ r ≡ stationOf p ⌝ }
+{
+    let t = p.primary;
+    let b = p.bank;
+    let primary = tracker_of(t);
+    let bank = bank_from(b);
     let counts = Counts {
         twins: p.twins,
         outscored: p.outscored,
@@ -22,12 +35,22 @@ pub fn station_of(p: PlainStation) -> Unplain
         replaced: p.replaced,
         cleared: p.cleared,
     };
-    let station = Station {
+    Station {
         primary,
         serial: p.serial,
         bank,
         counts,
         accepted: p.accepted,
-    };
-    Unplain { is: u.is, station }
+    }
+}
+
+// The station of a plain form, and whether it is one.
+pub fn station_of(p: PlainStation) -> Unplain
+    ensures { λ r. ⌜ (r .is ≡ isStation p) × (r .station ≡ stationOf p) ⌝ }
+{
+    let station = station_from(p);
+    Unplain {
+        is: is_station(p),
+        station,
+    }
 }

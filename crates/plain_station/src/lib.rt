@@ -1,7 +1,7 @@
-// A station with numbers in place of enums, as a host in C or Rust holds it, and the way there and back.
+// A station with numbers in place of enums and flags, as a host in C or Rust holds it, and the way there and back.
 use plain::PlainBank;
+use plain_tracker::PlainTracker;
 use station::Station;
-use tracker::SpeedTracker;
 
 pub mod from;
 pub mod to;
@@ -9,7 +9,7 @@ pub mod to;
 // A station: the fields of `Station`, its counts by cause one after the other.
 #[repr(C)]
 pub struct PlainStation {
-    pub primary: SpeedTracker,
+    pub primary: PlainTracker,
     pub serial: u64,
     pub bank: PlainBank,
     pub twins: u64,

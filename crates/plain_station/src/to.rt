@@ -1,6 +1,7 @@
-// From a station to its plain form. Every place is carried over, those beyond a count too.
+// From a station to its plain form. What lies beyond a count is left empty.
 use crate::PlainStation;
 use plain::to::plain_bank;
+use plain_tracker::to::plain_tracker;
 use station::Station;
 ghost use mathlib.Core.Path.{_≡_};
 ghost use Rattle.plain_station.specs.Plain.{plainStation};
@@ -9,9 +10,10 @@ ghost use Rattle.plain_station.specs.Plain.{plainStation};
 pub fn plain_station(s: Station) -> PlainStation
     ensures { λ r. ⌜ r ≡ plainStation s ⌝ }
 {
-    let primary = s.primary;
+    let t = s.primary;
     let b = s.bank;
     let c = s.counts;
+    let primary = plain_tracker(t);
     let bank = plain_bank(b);
     PlainStation {
         primary,

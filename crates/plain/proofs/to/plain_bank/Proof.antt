@@ -6,8 +6,36 @@ use Rattle.plain.proofs.to.plain_bank.Tie as tie
 plain-all-requires : tie.Need-plain-all-requires
 plain-all-requires c κs = search needs
 
+plain-log-requires : tie.Need-plain-log-requires
+plain-log-requires c κs = search needs
+
+number-of-requires : tie.Need-number-of-requires
+number-of-requires c κs = search needs
+
+number-of-requires-2 : tie.Need-number-of-requires-2
+number-of-requires-2 c κs = search needs
+
+number-of-requires-3 : tie.Need-number-of-requires-3
+number-of-requires-3 c κs = search needs
+
+number-of-requires-4 : tie.Need-number-of-requires-4
+number-of-requires-4 c κs = search needs
+
+number-of-requires-5 : tie.Need-number-of-requires-5
+number-of-requires-5 c κs = search needs
+
 returns : tie.Need-returns
-returns c = rw (c .before .before .before .plain-all .ensures)
+returns c = rw (c .number-of5 .ensures, c .before .number-of4 .ensures, c .before .before .number-of3 .ensures, c .before .before .before .number-of2 .ensures, c .before .before .before .before .number-of .ensures, c .before .before .before .before .before .plain-log .ensures, c .before .before .before .before .before .before .plain-all .ensures)
 
 pub plain-bank-spec : {M : Type 1} → statement M
-plain-bank-spec = tie.close (tie.spec plain-all-requires returns)
+plain-bank-spec =
+    tie.close
+    (tie.spec
+    plain-all-requires
+    plain-log-requires
+    number-of-requires
+    number-of-requires-2
+    number-of-requires-3
+    number-of-requires-4
+    number-of-requires-5
+    returns)

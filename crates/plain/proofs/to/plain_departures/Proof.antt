@@ -1,26 +1,28 @@
 -- `plain::to::plain_departures` meets its contract. Assumes nothing.
 use Prim.Native.Nat.{_-_}
+use native.Mathlib.Omega.{arith}
 use borrow.Author.Needs.{needs}
 use Rattle.marks.proofs.Shifting.{unmapped}
-use Rattle.plain.specs.Plain.{plainDeparture}
-use Rattle.plain.proofs.Filling.{Filling, fill-begins, fill-turns, fill-ends}
+use Rattle.plain_tracker.proofs.Carrying.{Laden, filled, laden-begins, laden-turns, laden-ends}
+use Rattle.plain.specs.Plain.{plainDeparture, noDeparture}
 use Rattle.plain.proofs.to.plain_departures.Statement.{statement}
 use Rattle.plain.proofs.to.plain_departures.Tie as tie
 
 abbrev Inv-loop : tie.InvT-loop
-Inv-loop left out₀ i₀ out i = Filling plainDeparture (left) 9 out i
+Inv-loop count left n out₀ i₀ out i = Laden plainDeparture noDeparture (left) 9 (count) n out i
 
 abbrev μ-loop : tie.MeasureT-loop
-μ-loop left out₀ i₀ out i = 9 - i
+μ-loop count left n out₀ i₀ out i = n - i
 
-array-copy-out-first : tie.Need-array-copy-out-first Inv-loop μ-loop
-array-copy-out-first c = search needs
+capped-requires : tie.Need-capped-requires Inv-loop μ-loop
+capped-requires c κs = search needs
 
-plain-departure-requires : tie.Need-plain-departure-requires Inv-loop μ-loop
-plain-departure-requires c κs = search needs
+no-departure-requires : tie.Need-no-departure-requires Inv-loop μ-loop
+no-departure-requires c κs = search needs
 
 loop-holds : tie.Need-loop-holds Inv-loop μ-loop
-loop-holds c = fill-begins plainDeparture _ 9 _ (search (unmapped, needs)) (search needs)
+unfolding filled
+loop-holds c = laden-begins plainDeparture noDeparture _ 9 _ _ _ (c .no-departure .ensures) (search (unmapped, needs)) (c .before .capped .ensures)
 
 mul-d : tie.Need-mul-d Inv-loop μ-loop
 mul-d c = search needs
@@ -28,8 +30,8 @@ mul-d c = search needs
 array-copy-out-d : tie.Need-array-copy-out-d Inv-loop μ-loop
 array-copy-out-d c = search needs
 
-plain-departure-requires-2 : tie.Need-plain-departure-requires-2 Inv-loop μ-loop
-plain-departure-requires-2 c κs = search needs
+plain-departure-requires : tie.Need-plain-departure-requires Inv-loop μ-loop
+plain-departure-requires c κs = search needs
 
 mul-out : tie.Need-mul-out Inv-loop μ-loop
 mul-out c = search needs
@@ -44,10 +46,10 @@ loop-less : tie.Need-loop-less Inv-loop μ-loop
 loop-less c = search needs
 
 loop-again : tie.Need-loop-again Inv-loop μ-loop
-loop-again c = fill-turns plainDeparture _ 9 _ _ _ _ (c .before .before .loop-test .taken) (c .before .before .before .loop .inv) (c .plain-departure2 .ensures)
+loop-again c = laden-turns plainDeparture noDeparture _ 9 _ _ _ _ _ _ (c .before .before .loop-test .taken) (c .before .before .before .loop .inv) (c .plain-departure .ensures)
 
 returns : tie.Need-returns Inv-loop μ-loop
-returns c = fill-ends plainDeparture _ 9 _ _ (c .loop-test .left) (c .before .loop .inv)
+returns c = laden-ends plainDeparture noDeparture _ 9 _ _ _ _ (c .loop-test .left) (c .before .loop .inv)
 
 pub plain-departures-spec : {M : Type 1} → statement M
 plain-departures-spec =
@@ -55,12 +57,12 @@ plain-departures-spec =
     (tie.spec
     Inv-loop
     μ-loop
-    array-copy-out-first
-    plain-departure-requires
+    capped-requires
+    no-departure-requires
     loop-holds
     mul-d
     array-copy-out-d
-    plain-departure-requires-2
+    plain-departure-requires
     mul-out
     array-set-from-out
     add-i
