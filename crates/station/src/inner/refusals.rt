@@ -68,7 +68,7 @@ pub(crate) fn fault(e: Event) -> u8
 }
 
 // Whether the marks, the gaps or the calls can be counted no further.
-pub(crate) fn is_full(s: Station) -> bool
+pub fn is_full(s: Station) -> bool
     ensures { λ r. ⌜ r ≡ full (view s) ⌝ }
 {
     if 4294967295 <= s.bank.marks_seen {
@@ -95,7 +95,7 @@ pub(crate) fn call_refusal(s: Station, e: Event) -> u8
 }
 
 // A refused call: the number, the station as it was, and none that left.
-pub(crate) fn refuse(s: Station, n: u8) -> Outcome
+pub fn refuse(s: Station, n: u8) -> Outcome
     ensures { λ r. ⌜ (r .answer .code ≡ Refused n) × ((r .station ≡ s) × (r .answer .«left_len» ≡ 0)) ⌝ }
 {
     done(s, Code::Refused(n))

@@ -1,0 +1,69 @@
+-- The rows that a host reads: those that left, padded. Assumes nothing.
+use mathlib.Core.Path.{_≡_, refl, ap, sym, _∙_}
+use mathlib.Core.List.{List, [], _∷_, map}
+use Prim.Native.Nat.{ℕ, zero, suc, _≤_}
+use native.Mathlib.Omega.{arith}
+use lib.ListN.{length, take}
+use Rattle.bank_model.specs.declared.Departure.{Departure}
+use Rattle.plain_tracker.specs.Plain.{carried}
+use Rattle.plain.specs.declared.PlainDeparture.{PlainDeparture}
+use Rattle.plain.specs.Plain.{plainDeparture, noDeparture}
+use Rattle.rival.specs.declared.TimingHypothesis.{TimingHypothesis}
+use Rattle.rival.specs.View.{viewHyp}
+use Rattle.station.specs.declared.Outcome.{Outcome}
+use Rattle.station.specs.View.{outcome}
+use Rattle.station.specs.Parts.{Solid}
+use Rattle.hullathan.specs.declared.PlainAnswer.{PlainAnswer}
+use Rattle.hullathan.specs.declared.PlainRival.{PlainRival}
+use Rattle.hullathan.specs.Host.{codeNumber, noRival, padded, rivalOf, rowOf, shown}
+
+abbrev first : List Departure → ℕ → List PlainDeparture
+first l n = map plainDeparture (take n l)
+
+carried-padded : (l : List Departure) (n : ℕ) → carried plainDeparture noDeparture n l ≡ padded (length l) (first l n)
+unfolding carried padded
+carried-padded [] zero = refl
+carried-padded [] (suc n) = refl
+carried-padded (d ∷ l) zero = ap (λ (r : List PlainDeparture). noDeparture ∷ r) (carried-padded l zero)
+carried-padded (d ∷ l) (suc n) = ap (λ (r : List PlainDeparture). plainDeparture d ∷ r) (carried-padded l n)
+
+-- the first n of those in nine places
+pub left-padded : (l : List Departure) (n : ℕ) → length l ≡ 9 → carried plainDeparture noDeparture n l ≡ padded 9 (first l n)
+left-padded l n h = carried-padded l n ∙ ap (λ (k : ℕ). padded k (first l n)) h
+
+-- and they are as many
+pub left-long : {A : Type 0} (l : List A) (n : ℕ) → n ≤ length l → length (take n l) ≡ n
+left-long l zero h = refl
+left-long [] (suc n) h = absurd (omega arith)
+left-long (d ∷ l) (suc n) h = ap suc (left-long l n (omega arith))
+
+pub map-long : {A B : Type 0} (f : A → B) (l : List A) → length (map f l) ≡ length l
+map-long f [] = refl
+map-long f (x ∷ l) = ap suc (map-long f l)
+
+-- the answer of an outcome
+pub row-is : (o : Outcome) (code : ℕ) (left : List PlainDeparture) → code ≡ codeNumber (o .answer .code) → left ≡ carried plainDeparture noDeparture (o .answer .«left_len») (o .answer .left) → length (o .answer .left) ≡ 9
+    → o .answer .«left_len» ≤ 9 → Solid (o .station)
+    → record { code = code; «dit_ms» = o .station .primary .pair .lo; «dah_ms» = o .station .primary .pair .hi; serial = o .station .serial; challengers = o .station .bank .«challengers_len»; left = left; «left_len» = o .answer .«left_len» } ≡ rowOf (outcome o)
+row-is o code left e f h k s =
+    let few = s .bank .steady .crew .few in
+    let wide = s .bank .steady .crew .long in
+    let held : o .station .bank .«challengers_len» ≡ length (map viewHyp (take (o .station .bank .«challengers_len») (o .station .bank .challengers))) =
+    sym (map-long viewHyp (take (o .station .bank .«challengers_len») (o .station .bank .challengers)) ∙ left-long (o .station .bank .challengers) (o .station .bank .«challengers_len») (omega arith)) in
+    let gone : left ≡ padded 9 (first (o .answer .left) (o .answer .«left_len»)) = f ∙ left-padded (o .answer .left) (o .answer .«left_len») h in
+    let many : o .answer .«left_len» ≡ length (take (o .answer .«left_len») (o .answer .left)) = sym (left-long (o .answer .left) (o .answer .«left_len») (omega arith)) in
+    λ i. record { code = e i; «dit_ms» = o .station .primary .pair .lo; «dah_ms» = o .station .primary .pair .hi; serial = o .station .serial; challengers = held i; left = gone i; «left_len» = many i }
+
+-- ---- the rivals in eight places
+abbrev pub rivalIn : TimingHypothesis → PlainRival
+rivalIn h = rivalOf (viewHyp h)
+
+carried-shown : (l : List TimingHypothesis) (n : ℕ) → carried rivalIn noRival n l ≡ shown (length l) (map viewHyp (take n l))
+unfolding carried shown
+carried-shown [] zero = refl
+carried-shown [] (suc n) = refl
+carried-shown (h ∷ l) zero = ap (λ (r : List PlainRival). noRival ∷ r) (carried-shown l zero)
+carried-shown (h ∷ l) (suc n) = ap (λ (r : List PlainRival). rivalIn h ∷ r) (carried-shown l n)
+
+pub rivals-shown : (l : List TimingHypothesis) (n : ℕ) → length l ≡ 8 → carried rivalIn noRival n l ≡ shown 8 (map viewHyp (take n l))
+rivals-shown l n h = carried-shown l n ∙ ap (λ (k : ℕ). shown k (map viewHyp (take n l))) h

@@ -1,0 +1,48 @@
+-- `hullathan::read::no_reading` meets its contract. Assumes nothing.
+use mathlib.Core.Path.{ap}
+use mathlib.Core.List.{List, [], _∷_}
+use lib.Ieee.{ofBits}
+use Rattle.ranges.specs.Limits.{nought}
+use Rattle.hullathan.specs.declared.PlainRival.{PlainRival}
+use Rattle.hullathan.specs.declared.PlainReading.{PlainReading}
+use Rattle.hullathan.specs.Host.{shown}
+use borrow.Author.Needs.{needs}
+use Rattle.hullathan.proofs.read.no_reading.Statement.{statement}
+use Rattle.hullathan.proofs.read.no_reading.Tie as tie
+
+abbrev with-rivals : List PlainRival → PlainReading
+with-rivals l = record {
+  code = 129;
+  ready = 0;
+  «has_wpm» = 0;
+  switching = 0;
+  width = 0;
+  «dit_ms» = nought;
+  «dah_ms» = nought;
+  «dit_estimate_ms» = nought;
+  wpm = nought;
+  score = nought;
+  «gap_score» = nought;
+  serial = 0;
+  accepted = 0;
+  marks = 0;
+  gaps = 0;
+  started = 0;
+  twins = 0;
+  outscored = 0;
+  aged = 0;
+  replaced = 0;
+  cleared = 0;
+  challengers = 0;
+  rivals = l;
+}
+
+no-rival-requires : tie.Need-no-rival-requires
+no-rival-requires c κs = search needs
+
+returns : tie.Need-returns
+unfolding ofBits shown
+returns c = ap (λ (z : PlainRival). with-rivals (z ∷ z ∷ z ∷ z ∷ z ∷ z ∷ z ∷ z ∷ [])) (c .no-rival .ensures)
+
+pub no-reading-spec : {M : Type 1} → statement M
+no-reading-spec = tie.close (tie.spec no-rival-requires returns)

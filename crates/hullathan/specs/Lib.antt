@@ -1,0 +1,4 @@
+pub mod Host
+pub mod Promise
+pub mod Parts
+pub mod Layout

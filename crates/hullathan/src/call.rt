@@ -1,0 +1,89 @@
+// One call on the station in a host's memory.
+use crate::Called;
+use crate::PlainAnswer;
+use crate::event::Asked;
+use crate::event::event_of;
+use crate::inner::opened;
+use crate::inner::row;
+use crate::inner::turn;
+use plain::to::no_departure;
+use plain_station::PlainStation;
+use plain_station::to::plain_station;
+use station::Outcome;
+use station::Station;
+use station_model::Code;
+ghost use mathlib.Core.Path.{_≡_};
+ghost use mathlib.Core.Bool.{cond};
+ghost use Rattle.station_model.specs.Station.{taken};
+ghost use Rattle.station.specs.Parts.{Solid};
+ghost use Rattle.plain_station.specs.Plain.{plainStation};
+ghost use Rattle.hullathan.specs.Host.{Answers, barred, eventOf};
+ghost use Rattle.hullathan.specs.Parts.{Handed, ofAsked};
+
+// The answer where there is no sound station.
+pub(crate) fn no_answer() -> PlainAnswer
+    ensures { λ r. ⌜ r ≡ barred ⌝ }
+{
+    let z = no_departure();
+    let left = [z; 9];
+    PlainAnswer {
+        code: 129,
+        dit_ms: 0.0,
+        dah_ms: 0.0,
+        serial: 0,
+        challengers: 0,
+        left,
+        left_len: 0,
+    }
+}
+
+// Whether no R stands before a code.
+pub(crate) fn is_taken(c: Code) -> bool
+    ensures { λ r. ⌜ r ≡ taken c ⌝ }
+{
+    match c {
+        Code::Done => true,
+        Code::BecameReady => true,
+        Code::Switched => true,
+        Code::Nothing => true,
+        Code::Refused(_) => false,
+    }
+}
+
+// The form of the station after a call; where the call was refused, the form p that was handed in.
+pub(crate) fn left_at(p: PlainStation, o: Outcome) -> PlainStation
+    ensures { λ r. ⌜ r ≡ cond (taken (o .answer .code)) (plainStation (o .station)) p ⌝ }
+{
+    let s = o.station;
+    let a = o.answer;
+    let why = a.code;
+    if is_taken(why) {
+        return plain_station(s);
+    }
+    p
+}
+
+// A call on the sound station s, whose form is p.
+pub(crate) fn heard(p: PlainStation, s: Station, a: Asked) -> Called
+    requires { ⌜ Solid s ⌝ }
+    ensures { λ r. ⌜ Handed p s (ofAsked a) r ⌝ }
+{
+    let o = turn(s, a);
+    let answer = row(o);
+    let station = left_at(p, o);
+    Called { station, answer }
+}
+
+// One call: the kind of the event, whether it is live, and its number.
+pub fn called(p: PlainStation, kind: u8, live: u8, value: f32) -> Called
+    ensures { λ r. ⌜ Answers (eventOf kind live value) p (r .answer) (r .station) ⌝ }
+{
+    let a = event_of(kind, live, value);
+    let u = opened(p);
+    if u.is {
+        let s = u.station;
+        return heard(p, s, a);
+    }
+    let answer = no_answer();
+    Called { station: p, answer }
+}
