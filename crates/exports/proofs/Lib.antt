@@ -4,6 +4,3 @@ pub mod Handing
 pub mod Banking
 pub mod Rivals
 pub mod Lending
-pub mod Watches
-pub mod Promising
-pub mod Stations

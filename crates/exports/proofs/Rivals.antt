@@ -5,7 +5,6 @@ use Prim.Native.Nat.{ℕ, zero, suc}
 use native.Mathlib.Omega.{arith}
 use lib.Dec.{T, eqb}
 use borrow.Author.Tests.{eq-eqb, ne-eqb}
-use Rattle.ranges.specs.Limits.{nought}
 use Rattle.ranges.specs.Settings.{standard}
 use Rattle.tracker.specs.declared.SpeedTracker.{SpeedTracker}
 use Rattle.tracker.specs.declared.Told.{Told}
@@ -24,15 +23,18 @@ use Rattle.bank.specs.Sound.{sound}
 use Rattle.bank.specs.Answers.{Answers, Hears, Started, Switches, bankThen, widthRefusal}
 use Rattle.plain.specs.declared.PlainBank.{PlainBank}
 use Rattle.plain.specs.declared.PlainHypothesis.{PlainHypothesis}
-use Rattle.plain.specs.Plain.{bankOf, plainBank, isBank}
-use Rattle.plain.proofs.Back.{bank-back, bank-named}
+use Rattle.plain.specs.declared.PlainDeparture.{PlainDeparture}
+use Rattle.plain_tracker.specs.Plain.{carried}
+use Rattle.plain_tracker.proofs.Carrying.{filled}
+use Rattle.plain.specs.Plain.{bankOf, plainBank, noDeparture, isBank}
+use Rattle.plain.proofs.Back.{bank-named, bank-sound}
 use Rattle.exports.specs.declared.of_bank.BankAnswered.{BankAnswered}
 use Rattle.exports.specs.declared.of_bank.BankHeard.{BankHeard}
 use Rattle.exports.specs.declared.of_bank.BankSwitched.{BankSwitched}
 use Rattle.exports.specs.declared.of_bank.BankChallenger.{BankChallenger}
 use Rattle.exports.specs.Tracker.{code, yes}
-use Rattle.exports.specs.Bank.{BankAnswers, BankHears, BankStarted, BankSwitches, Well, handedOn, heardOn, passedOn, plainThen, switchedOn, takenOf}
-use Rattle.exports.proofs.Banking.{changed-is, neat}
+use Rattle.exports.specs.Bank.{BankAnswers, BankHears, BankStarted, BankSwitches, Refused, Well, handedOn, heardOn, passedOn, plainThen, switchedOn}
+use Rattle.exports.proofs.Banking.{changed-is, left-blank, neat, view-as}
 
 pub code-unless : (n : ℕ) → code (unless n done) ≡ n
 code-unless zero = refl
@@ -54,17 +56,14 @@ pub refused-with : {n : ℕ} (b : PlainBank) (d : TimingBank) → (n ≡ 0 → �
 refused-with {n} b d h = rw (ne-eqb n 0 h)
 
 pub well : (d : TimingBank) → T (sound standard widest d) → Well (plainBank d)
-well d h = record { is = bank-named d; neat = neat d refl; sound = subst (λ (z : TimingBank). T (sound standard widest z)) (sym (bank-back d)) h }
+well d h = record { is = bank-named d; neat = neat d refl; sound = subst T (sym (bank-sound standard widest d)) h }
 
 well-as : {q : PlainBank} (d : TimingBank) → q ≡ plainBank d → T (sound standard widest d) → Well q
 well-as d e h = subst Well (sym e) (well d h)
 
-view-as : {q : PlainBank} (d : TimingBank) → q ≡ plainBank d → view (bankOf q) ≡ view d
-view-as d e = ap (λ (z : PlainBank). view (bankOf z)) e ∙ ap view (bank-back d)
-
 -- what a switch call leaves, with another bank
-abbrev taking : TimingBank → Switched → Bool → Steps.Taken
-taking v r is = record { bank = view v; primary = Tracked.view (r .primary); serial = r .serial; switched = is }
+abbrev taking : Model.Bank → Switched → Bool → Steps.Taken
+taking v r is = record { bank = v; primary = Tracked.view (r .primary); serial = r .serial; switched = is }
 
 -- ---- a form that is a bank's
 module _ (b : PlainBank) (e : isBank b ≡ true) where
@@ -81,6 +80,7 @@ module _ (b : PlainBank) (e : isBank b ≡ true) where
         state = λ z. changed-is c (done-with b (c .bank) (i ∙ sym (known n) ∙ z)) refl (h .state (sym (known n) ∙ z));
         still = λ z. well-as (c .bank) (done-with b (c .bank) (i ∙ sym (known n) ∙ z)) (h .still (sym (known n) ∙ z));
         few = h .few;
+        blank = left-blank (c .left) (c .«left_len») refl;
       }
 
   pub hears : (n : ℕ) (m : Model.Bank) (why : Told) (d : TimingBank) → Hears standard n (bankOf b) m why d → BankHears (plainThen b n) b m (heardOn b why d)
@@ -102,11 +102,15 @@ module _ (b : PlainBank) (e : isBank b ≡ true) where
         says = i ∙ sym (known n);
         flag = ap yes (h .says) ∙ yes-flag n (m .switched) ∙ ap (λ (k : ℕ). cond (eqb k 0) (m .switched) false) (sym (known n));
         kept = λ z. (refused-with b (r .bank) (λ w. z (known n ∙ sym i ∙ w)), h .kept (λ w. z (known n ∙ w)) .1);
-        state = λ z. ap (λ (v : PlainBank). takenOf v (r .primary) (r .serial) (m .switched)) (done-with b (r .bank) (i ∙ sym (known n) ∙ z)) ∙ ap (λ (v : TimingBank). taking v r (m .switched)) (bank-back (r .bank)) ∙ h .state (sym (known n) ∙ z);
+        state = λ z. ap (λ (v : Model.Bank). taking v r (m .switched)) (view-as (r .bank) (done-with b (r .bank) (i ∙ sym (known n) ∙ z))) ∙ h .state (sym (known n) ∙ z);
         still = λ z. (well-as (r .bank) (done-with b (r .bank) (i ∙ sym (known n) ∙ z)) (h .still (sym (known n) ∙ z) .0), h .still (sym (known n) ∙ z) .1);
       }
 
 -- ---- one that is not
+pub barred-with : (b : PlainBank) {d : PlainDeparture} → d ≡ noDeparture → Refused b (record { code = 1; bank = b; left = filled d 9; «left_len» = 0 })
+unfolding carried filled
+barred-with b e = record { says = refl; kept = (refl, refl); blank = rw e }
+
 module _ (b : PlainBank) (e : isBank b ≡ false) where
   barred : (n : ℕ) → plainThen b n ≡ 1
   barred n = rw e
@@ -114,8 +118,8 @@ module _ (b : PlainBank) (e : isBank b ≡ false) where
   never : {A : Type 0} (n : ℕ) → plainThen b n ≡ 0 → A
   never n z = let w : _≡_ {A = ℕ} 1 0 = sym (barred n) ∙ z in absurd (omega arith)
 
-  pub answers-not : (n : ℕ) (m : Model.Told) (r : BankAnswered) → (r .code ≡ 1) × ((r .bank ≡ b) × (r .«left_len» ≡ 0)) → BankAnswers (plainThen b n) b m r
-  answers-not n m r h = let k = h .1 .1 in record { says = h .0 ∙ sym (barred n); kept = λ z. h .1; state = never n; still = never n; few = omega arith }
+  pub answers-not : (n : ℕ) (m : Model.Told) (r : BankAnswered) → Refused b r → BankAnswers (plainThen b n) b m r
+  answers-not n m r h = let k = h .kept .1 in record { says = h .says ∙ sym (barred n); kept = λ z. h .kept; state = never n; still = never n; few = omega arith; blank = h .blank }
 
   pub hears-not : (n : ℕ) (m : Model.Bank) → BankHears (plainThen b n) b m (record { code = 1; bank = b })
   hears-not n m = record { says = sym (barred n); kept = λ z. refl; state = never n; still = never n }
@@ -150,18 +154,3 @@ told-not b e n f r h = h ∙ ap f (sym (barred b e n))
 -- ---- the parts of an answer
 abbrev pub a-challenger : ℕ → Bool → PlainHypothesis → BankChallenger
 a-challenger n has h = record { code = n; has = has; challenger = h }
-
-abbrev pub with-tracker : SpeedTracker → PlainHypothesis
-with-tracker t = record {
-  tracker = t;
-  score = nought;
-  «gap_score» = nought;
-  «lead_marks» = 0;
-  «age_marks» = 0;
-  origin = 0;
-  «retain_marks» = 0;
-  reported = false;
-  «ln_lo» = nought;
-  «ln_hi» = nought;
-  serial = 0;
-}

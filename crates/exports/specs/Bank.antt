@@ -5,11 +5,9 @@ use mathlib.Core.List.{List, map}
 use Prim.Native.Nat.{ℕ, _≤_}
 use lib.Dec.{T, eqb, leb}
 use lib.ListN.{take}
-use Rattle.ranges.specs.Limits.{nought}
 use Rattle.ranges.specs.Settings.{standard}
 use Rattle.tracker.specs.declared.SpeedTracker.{SpeedTracker}
 use Rattle.tracker.specs.declared.Told.{Told}
-use Rattle.tracker.specs.Parts.{blank}
 use Rattle.tracker.specs.Model as Tracked
 use Rattle.tracker.specs.Sound as Tracking
 use Rattle.tracker.specs.Answers.{Answer, done, flag, number, absent, count, refused, ofTold, ofFlag}
@@ -25,9 +23,9 @@ use Rattle.bank.specs.Parts.{Sturdy, widest}
 use Rattle.bank.specs.Sound.{sound}
 use Rattle.bank.specs.Answers.{Shown, shown, nothing, barred, widthRefusal}
 use Rattle.plain.specs.declared.PlainBank.{PlainBank}
-use Rattle.plain.specs.declared.PlainHypothesis.{PlainHypothesis}
 use Rattle.plain.specs.declared.PlainDeparture.{PlainDeparture}
-use Rattle.plain.specs.Plain.{bankOf, plainBank, plainHyp, plainDeparture, isBank}
+use Rattle.plain_tracker.specs.Plain.{carried}
+use Rattle.plain.specs.Plain.{bankOf, plainBank, plainHyp, blankHyp, noRecord, plainDeparture, noDeparture, isBank}
 use Rattle.exports.specs.declared.inner.BankChanged.{BankChanged}
 use Rattle.exports.specs.declared.inner.BankTaken.{BankTaken}
 use Rattle.exports.specs.declared.of_bank.BankAnswered.{BankAnswered}
@@ -46,13 +44,17 @@ Held b = Sturdy (bankOf b)
 abbrev pub Neat : PlainBank → Type 0
 Neat b = b ≡ plainBank (bankOf b)
 
--- a bank in plain form, and the first n of l as those that left it, are what m says; places beyond n are free
+-- a bank in plain form, and the first n of l as those that left it, are what m says
 pub record Tells (m : Model.Told) (b : PlainBank) (l : List PlainDeparture) (n : ℕ) : Type 0 where
   pub bank : view (bankOf b) ≡ m .bank
   pub left : take n l ≡ map plainDeparture (m .left)
 
+-- places of l beyond n hold zeros
+abbrev pub Blank : List PlainDeparture → ℕ → Type 0
+Blank l n = l ≡ carried (λ d. d) noDeparture n l
+
 abbrev pub ChangedTo : Model.Told → BankChanged → Type 0
-ChangedTo m r = Tells m (r .bank) (r .left) (r .«left_len»)
+ChangedTo m r = Tells m (r .bank) (r .left) (r .«left_len») × Blank (r .left) (r .«left_len»)
 
 -- a bank and a primary after a switch call
 abbrev pub takenOf : PlainBank → SpeedTracker → ℕ → Bool → Steps.Taken
@@ -82,6 +84,13 @@ pub record BankAnswers (n : ℕ) (b : PlainBank) (m : Model.Told) (r : BankAnswe
   pub state : n ≡ 0 → Tells m (r .bank) (r .left) (r .«left_len»)
   pub still : n ≡ 0 → Well (r .bank)
   pub few : r .«left_len» ≤ 9
+  pub blank : Blank (r .left) (r .«left_len»)
+
+-- a form that is no bank's
+pub record Refused (b : PlainBank) (r : BankAnswered) : Type 0 where
+  pub says : r .code ≡ 1
+  pub kept : (r .bank ≡ b) × (r .«left_len» ≡ 0)
+  pub blank : Blank (r .left) (r .«left_len»)
 
 pub record BankHears (n : ℕ) (b : PlainBank) (m : Model.Bank) (r : BankHeard) : Type 0 where
   pub says : r .code ≡ n
@@ -108,7 +117,7 @@ abbrev pub handedOn : ℕ → PlainBank → TimingBank → PlainBank
 handedOn n b d = cond (eqb n 0) (plainBank d) b
 
 abbrev pub passedOn : PlainBank → Told → Changed → BankAnswered
-passedOn b why c = record { code = code (ofTold why); bank = handedOn (code (ofTold why)) b (c .bank); left = map plainDeparture (c .left); «left_len» = c .«left_len» }
+passedOn b why c = record { code = code (ofTold why); bank = handedOn (code (ofTold why)) b (c .bank); left = carried plainDeparture noDeparture (c .«left_len») (c .left); «left_len» = c .«left_len» }
 
 abbrev pub heardOn : PlainBank → Told → TimingBank → BankHeard
 heardOn b why d = record { code = code (ofTold why); bank = handedOn (code (ofTold why)) b d }
@@ -126,21 +135,6 @@ tallied (number x) = record { code = 0; value = 0 }
 tallied absent = record { code = 0; value = 0 }
 
 -- what stands where there is no challenger
-abbrev pub blankHyp : PlainHypothesis
-blankHyp = record {
-  tracker = blank;
-  score = nought;
-  «gap_score» = nought;
-  «lead_marks» = 0;
-  «age_marks» = 0;
-  origin = 0;
-  «retain_marks» = 0;
-  reported = false;
-  «ln_lo» = nought;
-  «ln_hi» = nought;
-  serial = 0;
-}
-
 abbrev pub stoppedAt : ℕ → BankChallenger
 stoppedAt n = record { code = n; has = false; challenger = blankHyp }
 
@@ -151,7 +145,7 @@ challenged (barred n) = stoppedAt n
 
 -- what stands where there is no switch record
 abbrev pub unlogged : ℕ → BankLogged
-unlogged n = record { code = n; has = false; entry = record { «mark_index» = 0; «from_dit_ms» = nought; «to_dit_ms» = nought; applied = false } }
+unlogged n = record { code = n; has = false; entry = noRecord }
 
 abbrev pub logged : Shown SwitchRecord → BankLogged
 logged (shown r) = record { code = 0; has = true; entry = r }

@@ -3,4 +3,3 @@ pub mod Sender
 pub mod Tracker
 pub mod Bank
 pub mod Lent
-pub mod Station

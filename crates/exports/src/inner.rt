@@ -1,21 +1,12 @@
 // What the layers call on a state that is known to be sound, for measuring: each function asks what it needs.
-use crate::of_station::Asked;
-use crate::of_station::event_of;
 use plain::PlainBank;
 use plain::PlainDeparture;
 use plain::from::bank_of;
 use plain::to::plain_bank;
 use plain::to::plain_departures;
-use plain_station::PlainStation;
-use plain_station::from::station_of;
-use plain_station::to::plain_station;
-use station::Station;
-use station::inner::call::next;
 use tracker::SpeedTracker;
 ghost use mathlib.Core.Path.{_≡_};
-ghost use mathlib.Core.Bool.{true};
 ghost use lib.Dec.{T};
-ghost use lib.ListN.{length};
 ghost use Rattle.ranges.specs.Settings.{standard};
 ghost use Rattle.tracker.specs.Model.{view};
 ghost use Rattle.marks.specs.Lists.{duration};
@@ -26,11 +17,7 @@ ghost use Rattle.bank.specs.View as Banked;
 ghost use Rattle.bank.specs.Parts.{Countable, Sturdy};
 ghost use Rattle.bank.specs.Switching.{Chosen};
 ghost use Rattle.plain.specs.Plain.{bankOf, plainBank};
-ghost use Rattle.station.specs.View as Stations;
-ghost use Rattle.station.specs.Parts.{Steady};
-ghost use Rattle.plain_station.specs.Plain.{stationOf};
 ghost use Rattle.exports.specs.Bank.{ChangedTo, Held, Neat, takenTo};
-ghost use Rattle.exports.specs.Station.{eventOf, onward, watchOf};
 
 // A bank after a call, and those that left it in the call.
 #[repr(C)]
@@ -86,11 +73,12 @@ pub extern "C" fn hullathan_inner_bank_on_mark(
     let d = m.bank;
     let l = m.left;
     let bank = plain_bank(d);
-    let left = plain_departures(l);
+    let left_len = m.left_len;
+    let left = plain_departures(l, left_len);
     BankChanged {
         bank,
         left,
-        left_len: m.left_len,
+        left_len,
     }
 }
 
@@ -144,42 +132,4 @@ pub extern "C" fn hullathan_inner_bank_same(b: PlainBank) -> PlainBank
     let u = bank_of(b);
     let c = u.bank;
     plain_bank(c)
-}
-
-// One event of a watch, by its kind; none where no event has it.
-pub(crate) fn onward(s: Station, kind: u8, value: f32) -> Station
-    requires { ⌜ Steady s ⌝ }
-    ensures { λ r. ⌜ (Stations.view r ≡ onward (Stations.view s) (eventOf value true kind)) × Steady r ⌝ }
-{
-    let a = event_of(kind, value, true);
-    match a {
-        Asked::Is(e) => {
-            let o = next(s, e);
-            o.station
-        }
-        Asked::Unknown => s,
-    }
-}
-
-// A watch: the events, by their kinds and numbers, one after the other, each mark live. With no test of the station.
-#[no_mangle]
-pub extern "C" fn hullathan_inner_station_watch(
-    s: PlainStation,
-    kinds: &[u8],
-    values: &[f32],
-) -> PlainStation
-    requires { ⌜ Steady (stationOf s) ⌝ }
-    requires { ⌜ length (now kinds) ≡ length (now values) ⌝ }
-    ensures { λ r. ⌜ (Stations.view (stationOf r) ≡ watchOf (Stations.view (stationOf s)) (now (kinds .entry)) (now (values .entry))) × Steady (stationOf r) ⌝ }
-{
-    let u = station_of(s);
-    let mut c = u.station;
-    let mut i: usize = 0;
-    while i < kinds.len() {
-        let kind = kinds[i];
-        let value = values[i];
-        i += 1;
-        c = onward(c, kind, value);
-    }
-    plain_station(c)
 }

@@ -5,5 +5,4 @@ pub mod of_bank;
 pub mod of_lent;
 pub mod of_numbers;
 pub mod of_sender;
-pub mod of_station;
 pub mod of_tracker;

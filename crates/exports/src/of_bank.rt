@@ -16,6 +16,8 @@ use plain::PlainBank;
 use plain::PlainDeparture;
 use plain::PlainHypothesis;
 use plain::from::bank_of;
+use plain::to::blank_hypothesis;
+use plain::to::no_departure;
 use plain::to::plain_bank;
 use plain::to::plain_departures;
 use plain::to::plain_hypothesis;
@@ -32,7 +34,7 @@ ghost use Rattle.bank_model.specs.Steps.{clear, onGap, onMark, onReady, takeSwi
 ghost use Rattle.bank.specs.View.{view};
 ghost use Rattle.bank.specs.Answers.{bankThen, clearRefusal, heardRefusal, ofChallenger, ofLogged, ofTally, readyRefusal, showing, switchRefusal};
 ghost use Rattle.plain.specs.Plain.{bankOf, plainBank};
-ghost use Rattle.exports.specs.Bank.{BankAnswers, BankHears, BankStarted, BankSwitches, blankHyp, challenged, heardOn, logged, passedOn, plainThen, stoppedAt, switchedOn, tallied, unlogged};
+ghost use Rattle.exports.specs.Bank.{BankAnswers, BankHears, BankStarted, BankSwitches, Refused, challenged, heardOn, logged, passedOn, plainThen, stoppedAt, switchedOn, tallied, unlogged};
 
 // The answer of a call that may send challengers away: the code is 0 or the number of the refusal.
 #[repr(C)]
@@ -103,12 +105,13 @@ pub(crate) fn answered(b: PlainBank, a: Answered) -> BankAnswered
     let l = c.left;
     let code = told_code(why);
     let bank = handed(code, b, d);
-    let left = plain_departures(l);
+    let left_len = c.left_len;
+    let left = plain_departures(l, left_len);
     BankAnswered {
         code,
         bank,
         left,
-        left_len: c.left_len,
+        left_len,
     }
 }
 
@@ -148,25 +151,6 @@ pub(crate) fn tally(t: Tally) -> BankTally
     }
 }
 
-// No challenger.
-pub(crate) fn no_hypothesis() -> PlainHypothesis
-    ensures { λ r. ⌜ r ≡ blankHyp ⌝ }
-{
-    PlainHypothesis {
-        tracker: SpeedTracker::new(),
-        score: 0.0,
-        gap_score: 0.0,
-        lead_marks: 0,
-        age_marks: 0,
-        origin: 0,
-        retain_marks: 0,
-        reported: false,
-        ln_lo: 0.0,
-        ln_hi: 0.0,
-        serial: 0,
-    }
-}
-
 // A challenger refused by a number, or by none and absent.
 pub(crate) fn no_challenger(code: u8) -> BankChallenger
     ensures { λ r. ⌜ r ≡ stoppedAt code ⌝ }
@@ -174,7 +158,7 @@ pub(crate) fn no_challenger(code: u8) -> BankChallenger
     BankChallenger {
         code,
         has: false,
-        challenger: no_hypothesis(),
+        challenger: blank_hypothesis(),
     }
 }
 
@@ -228,12 +212,9 @@ pub(crate) fn entry(l: Logged) -> BankLogged
 
 // A form that is no bank's, refused by 1.
 pub(crate) fn unanswered(b: PlainBank) -> BankAnswered
-    ensures { λ r. ⌜ (r .code ≡ 1) × ((r .bank ≡ b) × (r .«left_len» ≡ 0)) ⌝ }
+    ensures { λ r. ⌜ Refused b r ⌝ }
 {
-    let d = PlainDeparture {
-        serial: 0,
-        cause: 0,
-    };
+    let d = no_departure();
     let left = [d; 9];
     BankAnswered {
         code: 1,
@@ -311,7 +292,7 @@ pub extern "C" fn hullathan_bank_challenger(b: PlainBank, i: usize) -> BankChall
 // The i-th switch record, oldest first.
 #[no_mangle]
 pub extern "C" fn hullathan_bank_switch_record(b: PlainBank, i: usize) -> BankLogged
-    ensures { λ r. ⌜ r ≡ logged (showing (plainThen b (bankThen standard (bankOf b) 0)) (getElem? (take (b .«log_len») (b .log)) i)) ⌝ }
+    ensures { λ r. ⌜ r ≡ logged (showing (plainThen b (bankThen standard (bankOf b) 0)) (getElem? (take (b .«log_len») (bankOf b .log)) i)) ⌝ }
 {
     let u = bank_of(b);
     if u.is {

@@ -6,7 +6,7 @@ use Rattle.bank_model.specs.Steps as Steps
 use Rattle.bank.specs.declared.TimingBank.{TimingBank}
 use Rattle.bank.specs.View.{view}
 use Rattle.bank.specs.Parts.{Countable, Sturdy}
-use Rattle.exports.proofs.Banking.{back, bank-is, neat, read}
+use Rattle.exports.proofs.Banking.{held, neat, read, view-as}
 use borrow.Author.Needs.{needs}
 use Rattle.exports.proofs.inner.hullathan_inner_bank_on_gap.Statement.{statement}
 use Rattle.exports.proofs.inner.hullathan_inner_bank_on_gap.Tie as tie
@@ -24,7 +24,7 @@ returns : tie.Need-returns
 returns c =
     let a = c .before .before .before .before .args in
     let g = c .before .on-gap .ensures in
-    (ap view (bank-is (c .plain-bank .ensures)) ∙ g .0 ∙ ap (λ (z : TimingBank). Steps.onGap standard (view z) (Tracked.view (a .p)) (a .dur-ms)) (c .before .before .before .bank-of .ensures .1), (back Sturdy (c .plain-bank .ensures) (g .1), neat (c .before .on-gap .result) (c .plain-bank .ensures)))
+    (view-as (c .before .on-gap .result) (c .plain-bank .ensures) ∙ g .0 ∙ ap (λ (z : TimingBank). Steps.onGap standard (view z) (Tracked.view (a .p)) (a .dur-ms)) (c .before .before .before .bank-of .ensures .1), (held (c .before .on-gap .result) (c .plain-bank .ensures) (g .1), neat (c .before .on-gap .result) (c .plain-bank .ensures)))
 
 pub hullathan-inner-bank-on-gap-spec : {M : Type 1} → statement M
 hullathan-inner-bank-on-gap-spec =

@@ -6,7 +6,7 @@ use Rattle.bank_model.specs.Steps as Steps
 use Rattle.bank.specs.declared.TimingBank.{TimingBank}
 use Rattle.bank.specs.View.{view}
 use Rattle.bank.specs.Parts.{Countable, Sturdy}
-use Rattle.exports.proofs.Banking.{back, changed-is, neat, read}
+use Rattle.exports.proofs.Banking.{changed-is, held, left-blank, neat, read}
 use borrow.Author.Needs.{needs}
 use Rattle.exports.proofs.inner.hullathan_inner_bank_on_mark.Statement.{statement}
 use Rattle.exports.proofs.inner.hullathan_inner_bank_on_mark.Tie as tie
@@ -27,7 +27,7 @@ returns : tie.Need-returns
 returns c =
     let a = c .before .before .before .before .before .before .before .args in
     let m = c .before .before .before .before .on-mark in
-    (changed-is (m .result) (c .before .plain-bank .ensures) (c .plain-departures .ensures) (m .ensures .is ∙ ap (λ (z : TimingBank). Steps.onMark standard (view z) (Tracked.view (a .p)) (a .dur-ms) (a .live)) (c .before .before .before .before .before .before .bank-of .ensures .1)), (back Sturdy (c .before .plain-bank .ensures) (m .ensures .sturdy), neat (m .result .bank) (c .before .plain-bank .ensures)))
+    ((changed-is (m .result) (c .before .plain-bank .ensures) (c .plain-departures .ensures) (m .ensures .is ∙ ap (λ (z : TimingBank). Steps.onMark standard (view z) (Tracked.view (a .p)) (a .dur-ms) (a .live)) (c .before .before .before .before .before .before .bank-of .ensures .1)), left-blank _ _ (c .plain-departures .ensures)), (held _ (c .before .plain-bank .ensures) (m .ensures .sturdy), neat (m .result .bank) (c .before .plain-bank .ensures)))
 
 pub hullathan-inner-bank-on-mark-spec : {M : Type 1} → statement M
 hullathan-inner-bank-on-mark-spec =

@@ -6,7 +6,7 @@ use Rattle.bank.specs.declared.TimingBank.{TimingBank}
 use Rattle.bank.specs.View.{view}
 use Rattle.bank.specs.Parts.{Sturdy}
 use Rattle.bank.specs.Switching.{Chosen}
-use Rattle.exports.proofs.Banking.{back, neat, read, taken-is}
+use Rattle.exports.proofs.Banking.{held, neat, read, taken-is}
 use borrow.Author.Needs.{needs}
 use Rattle.exports.proofs.inner.hullathan_inner_bank_take_switch.Statement.{statement}
 use Rattle.exports.proofs.inner.hullathan_inner_bank_take_switch.Tie as tie
@@ -27,7 +27,7 @@ returns : tie.Need-returns
 returns c =
     let a = c .before .before .before .before .before .before .args in
     let t = c .before .before .before .take-switch in
-    (taken-is (t .result) (c .plain-bank .ensures) ∙ t .ensures .is ∙ ap (λ (z : TimingBank). Steps.takeSwitch (view z) (Tracked.view (a .p)) (a .serial)) (c .before .before .before .before .before .bank-of .ensures .1), (back Sturdy (c .plain-bank .ensures) (t .ensures .sturdy), neat (t .result .bank) (c .plain-bank .ensures), t .ensures .primary))
+    (taken-is (t .result) (c .plain-bank .ensures) ∙ t .ensures .is ∙ ap (λ (z : TimingBank). Steps.takeSwitch (view z) (Tracked.view (a .p)) (a .serial)) (c .before .before .before .before .before .bank-of .ensures .1), (held _ (c .plain-bank .ensures) (t .ensures .sturdy), neat (t .result .bank) (c .plain-bank .ensures), t .ensures .primary))
 
 pub hullathan-inner-bank-take-switch-spec : {M : Type 1} → statement M
 hullathan-inner-bank-take-switch-spec =

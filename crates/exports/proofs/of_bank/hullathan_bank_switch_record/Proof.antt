@@ -5,6 +5,7 @@ use Rattle.bank.specs.View.{view}
 use Prim.Native.Nat.{ℕ}
 use lib.ListN.{getElem?, take}
 use Rattle.bank.specs.Answers.{showing}
+use Rattle.plain.specs.Plain.{bankOf}
 use Rattle.exports.specs.Bank.{logged}
 use Rattle.exports.proofs.Rivals.{told-by, told-not}
 use borrow.Author.Needs.{needs}
@@ -33,7 +34,7 @@ returns-2 : tie.Need-returns-2
 returns-2 c =
     let a = c .before .before .before .args in
     let u = c .before .before .bank-of in
-    told-not (a .b) (sym (u .ensures .0) ∙ c .before .if1 .left) _ (λ (n : ℕ). logged (showing n (getElem? (take (a .b .«log_len») (a .b .log)) (a .i)))) _ (c .no-record .ensures)
+    told-not (a .b) (sym (u .ensures .0) ∙ c .before .if1 .left) _ (λ (n : ℕ). logged (showing n (getElem? (take (a .b .«log_len») (bankOf (a .b) .log)) (a .i)))) _ (c .no-record .ensures)
 
 pub hullathan-bank-switch-record-spec : {M : Type 1} → statement M
 hullathan-bank-switch-record-spec =
