@@ -3,6 +3,9 @@ use bank_model::SwitchRecord;
 use plain::PlainBank;
 use plain::PlainDeparture;
 use plain::PlainHypothesis;
+use plain::from::record_of;
+use plain_tracker::from::flag_of;
+use plain_tracker::from::tracker_of;
 use replay::put_code;
 use replay::put_flag;
 use replay::put_float;
@@ -27,11 +30,11 @@ pub(crate) fn put_hypothesis(h: PlainHypothesis) {
     if h.origin == 2 {
         put_word(h.retain_marks);
     }
-    put_flag(h.reported);
+    put_flag(flag_of(h.reported));
     put_float(h.ln_lo);
     put_float(h.ln_hi);
     let t = h.tracker;
-    put_tracker(t);
+    put_tracker(tracker_of(t));
 }
 
 pub(crate) fn put_record(r: SwitchRecord) {
@@ -71,7 +74,7 @@ fn put_record_at(b: PlainBank, i: usize) {
     if i < b.log_len {
         if i < 16 {
             let r = b.log[i];
-            put_record(r);
+            put_record(record_of(r));
         }
     }
 }
@@ -105,8 +108,9 @@ fn put_challengers(b: PlainBank) {
 }
 
 fn put_choice(b: PlainBank) {
-    put_flag(b.has_pending);
-    if b.has_pending {
+    let has = flag_of(b.has_pending);
+    put_flag(has);
+    if has {
         put_count(b.pending);
     }
 }
@@ -125,16 +129,17 @@ pub(crate) fn put_short(b: PlainBank) {
 // All of it.
 pub(crate) fn put_bank(b: PlainBank) {
     put_count(b.width);
-    put_flag(b.switching);
+    put_flag(flag_of(b.switching));
     put_short(b);
     put_challengers(b);
     put_streak(b);
     put_gaps(b);
-    put_flag(b.has_side);
-    if b.has_side {
-        put_flag(b.streak_side);
+    let side = flag_of(b.has_side);
+    put_flag(side);
+    if side {
+        put_flag(flag_of(b.streak_side));
     }
-    put_held(b.has_last_gap, b.last_gap);
+    put_held(flag_of(b.has_last_gap), b.last_gap);
     put_log(b);
 }
 

@@ -14,6 +14,8 @@ use crate::banks::put_short;
 use exports::of_bank as calls;
 use exports::of_tracker as trackers;
 use plain::PlainBank;
+use plain_tracker::from::tracker_of;
+use plain_tracker::to::plain_tracker;
 use replay::float;
 use replay::put_byte;
 use replay::put_code;
@@ -179,7 +181,7 @@ fn set_rival(b: PlainBank, k: usize, part: u32, place: u32, v: u32) -> PlainBank
     if k < 8 {
         let mut h = b.challengers[k];
         let t = h.tracker;
-        let u = shown::parts::set_part(t, part, place, v);
+        let u = plain_tracker(shown::parts::set_part(tracker_of(t), part, place, v));
         h.tracker = u;
         c.challengers[k] = h;
     }

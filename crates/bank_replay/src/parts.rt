@@ -1,7 +1,8 @@
 // The parts of a bank that a line may set, by their numbers: the oracle's list of them.
-use bank_model::SwitchRecord;
 use plain::PlainBank;
 use plain::PlainHypothesis;
+use plain::PlainRecord;
+use plain_tracker::to::number_of;
 use replay::float;
 
 // The upper and the lower half of a number of 64 bits.
@@ -25,13 +26,13 @@ fn with_streak(b: PlainBank, part: u32, i: usize, v: u32) -> PlainBank {
     c
 }
 
-fn with_record(r: SwitchRecord, part: u32, v: u32) -> SwitchRecord {
+fn with_record(r: PlainRecord, part: u32, v: u32) -> PlainRecord {
     let mut s = r;
     match part {
         17 => s.mark_index = v as u64,
         18 => s.from_dit_ms = float(v),
         19 => s.to_dit_ms = float(v),
-        _ => s.applied = v != 0,
+        _ => s.applied = number_of(v != 0),
     }
     s
 }
@@ -54,7 +55,7 @@ fn with_hypothesis(h: PlainHypothesis, part: u32, v: u32) -> PlainHypothesis {
         27 => g.age_marks = v,
         28 => g.origin = (v % 256) as u8,
         29 => g.retain_marks = v,
-        30 => g.reported = v != 0,
+        30 => g.reported = number_of(v != 0),
         31 => g.ln_lo = float(v),
         32 => g.ln_hi = float(v),
         _ => g.serial = v as u64,
@@ -75,14 +76,14 @@ fn with_count(b: PlainBank, part: u32, v: u32) -> PlainBank {
     let mut c = b;
     match part {
         0 => c.width = v as usize,
-        1 => c.switching = v != 0,
+        1 => c.switching = number_of(v != 0),
         2 => c.primary_score = float(v),
         3 => c.primary_gap_score = float(v),
         4 => c.challengers_len = v as usize,
         6 => c.streak_len = v as usize,
         8 => c.streak_gaps_len = v as usize,
-        9 => c.has_side = v != 0,
-        _ => c.streak_side = v != 0,
+        9 => c.has_side = number_of(v != 0),
+        _ => c.streak_side = number_of(v != 0),
     }
     c
 }
@@ -90,11 +91,11 @@ fn with_count(b: PlainBank, part: u32, v: u32) -> PlainBank {
 fn with_rest(b: PlainBank, part: u32, v: u32) -> PlainBank {
     let mut c = b;
     match part {
-        11 => c.has_last_gap = v != 0,
+        11 => c.has_last_gap = number_of(v != 0),
         12 => c.last_gap = float(v),
         13 => c.marks_seen = v as u64,
         14 => c.gaps_seen = v as u64,
-        15 => c.has_pending = v != 0,
+        15 => c.has_pending = number_of(v != 0),
         16 => c.pending = v as usize,
         21 => c.log_len = v as usize,
         22 => c.started = with_low(b.started, v),
