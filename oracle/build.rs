@@ -109,22 +109,24 @@ fn write(path: &Path, text: &str) {
         .unwrap_or_else(|e| stop(&format!("{} cannot be written: {e}", path.display())));
 }
 
-/// Links the proved library: target/staticlib of the repository, or the folder that HULLATHAN_LIB names.
+/// Links the two archives of the proved library: target/staticlib of the repository, or the folder that HULLATHAN_LIB names.
 fn library(root: &Path) {
     println!("cargo::rerun-if-env-changed=HULLATHAN_LIB");
     let folder = env::var_os("HULLATHAN_LIB")
         .map(PathBuf::from)
         .unwrap_or_else(|| root.join("target/staticlib"));
-    let archive = folder.join("libexports.a");
-    println!("cargo::rerun-if-changed={}", archive.display());
-    if !archive.is_file() {
-        stop(&format!(
-            "{} is not there. `rt staticlib exports`, in the repository's root, makes it",
-            archive.display()
-        ));
-    }
     println!("cargo::rustc-link-search=native={}", folder.display());
-    println!("cargo::rustc-link-lib=static=exports");
+    for name in ["exports", "hullathan"] {
+        let archive = folder.join(format!("lib{name}.a"));
+        println!("cargo::rerun-if-changed={}", archive.display());
+        if !archive.is_file() {
+            stop(&format!(
+                "{} is not there. `rt staticlib {name}`, in the repository's root, makes it",
+                archive.display()
+            ));
+        }
+        println!("cargo::rustc-link-lib=static={name}");
+    }
 }
 
 fn main() {

@@ -1,6 +1,8 @@
 //! How long a call takes, beside Rust's own, on the same inputs.
 
 #[cfg(manta)]
+pub mod hosts;
+#[cfg(manta)]
 pub mod journal;
 
 use crate::hullathan::numbers as ours;
@@ -438,13 +440,14 @@ fn bank_table(what: &str, h: &Heard, gaps: bool) {
 #[cfg(manta)]
 fn full(width: usize) -> crate::hullathan::bank::Bank {
     use crate::hullathan::bank as ours;
+    use crate::hullathan::Bit;
     use crate::log01::Ln01;
     let mut b = ours::new(width, false).bank;
     b.challengers_len = width - 1;
     for (i, h) in b.challengers[..width - 1].iter_mut().enumerate() {
         let p = &mut h.tracker.pair;
         let lo = 20.0 * 1.31f32.powi(i as i32);
-        (p.ready, p.confirmed, p.lo, p.hi) = (true, true, lo, 4.4 * lo);
+        (p.ready, p.confirmed, p.lo, p.hi) = (Bit::YES, Bit::YES, lo, 4.4 * lo);
         (h.ln_lo, h.ln_hi) = (p.lo.ln01(), p.hi.ln01());
         (h.origin, h.retain_marks, h.serial) = (2, u32::MAX, i as u64 + 1);
     }
@@ -548,65 +551,74 @@ pub fn bank() {
     full_table("a full bank, one gap", &h, false);
 }
 
-/// A watch of a station: each mark, a gap and a switch call, by document 01's rules over the Rust.
+/// The events of a watch: each mark, a gap and a switch call.
 #[cfg(manta)]
-fn rust_watch<'a>(marks: &'a [f32], gaps: &'a [f32], width: usize) -> Loop<'a> {
-    use crate::layers::station::{drive::Driven, Event, GAP, MARK, SWITCH};
-    let event = |kind, value: f32| Event {
+fn events(marks: &[f32], gaps: &[f32]) -> Vec<crate::hullathan::station::Event> {
+    use crate::hullathan::station::Event;
+    use crate::layers::station::{GAP, MARK, SWITCH};
+    let event = |kind, value| Event {
         kind,
-        value: value.to_bits(),
-        live: true,
+        live: 1,
+        value,
     };
+    let three = |(&m, &g)| [event(MARK, m), event(GAP, g), event(SWITCH, 0.0)];
+    marks.iter().zip(gaps).flat_map(three).collect()
+}
+
+/// A watch of a station by document 01's rules over the Rust.
+#[cfg(manta)]
+fn rust_watch(list: &[crate::hullathan::station::Event], width: usize) -> Loop<'_> {
+    use crate::layers::station::{drive::Driven, Event};
     Box::new(move || {
         let mut s = Driven::fresh(width, true);
-        for (&m, &g) in marks.iter().zip(gaps) {
-            s.event(&event(MARK, black_box(m)));
-            s.event(&event(GAP, black_box(g)));
-            s.event(&event(SWITCH, 0.0));
+        for e in list {
+            s.event(&Event {
+                kind: e.kind,
+                value: black_box(e.value).to_bits(),
+                live: e.live != 0,
+            });
         }
         black_box(&s.bank);
     })
 }
 
-/// The same by the public calls.
+/// The same by the public calls, event by event.
 #[cfg(manta)]
-fn station_watch<'a>(marks: &'a [f32], gaps: &'a [f32], width: usize) -> Loop<'a> {
+fn station_watch(list: &[crate::hullathan::station::Event], width: usize) -> Loop<'_> {
     use crate::hullathan::station as ours;
-    use crate::layers::station::{GAP, MARK, SWITCH};
     Box::new(move || {
-        let mut s = ours::fresh(width, true).station;
-        for (&m, &g) in marks.iter().zip(gaps) {
-            s = ours::call(s, MARK, black_box(m), true).station;
-            s = ours::call(s, GAP, black_box(g), true).station;
-            s = ours::call(s, SWITCH, 0.0, true).station;
+        let mut s = ours::fresh(width, true);
+        for e in list {
+            black_box(ours::call(&mut s, e.kind, e.live, black_box(e.value)));
         }
         black_box(&s);
     })
 }
 
-/// The same by the inner call, over C once.
+/// The same by batches of 64.
 #[cfg(manta)]
-fn inner_watch<'a>(marks: &[f32], gaps: &[f32], width: usize) -> Loop<'a> {
+fn batch_watch(list: &[crate::hullathan::station::Event], width: usize) -> Loop<'_> {
     use crate::hullathan::station as ours;
-    use crate::layers::station::{GAP, MARK, SWITCH};
-    let each = marks.iter().zip(gaps);
-    let kinds = [MARK, GAP, SWITCH].repeat(marks.len());
-    let values: Vec<f32> = each.flat_map(|(&m, &g)| [m, g, 0.0]).collect();
     Box::new(move || {
-        let s = ours::fresh(width, true).station;
-        // Safety: a fresh station, and three kinds and three numbers for each mark
-        black_box(unsafe { ours::inner_watch(s, black_box(&kinds), black_box(&values)) });
+        let mut s = ours::fresh(width, true);
+        let mut b = ours::Batch::new();
+        for part in list.chunks(ours::MOST) {
+            b.len = part.len();
+            b.events[..part.len()].copy_from_slice(part);
+            ours::run(&mut s, black_box(&mut b));
+        }
+        black_box(&s);
     })
 }
 
-/// A station passed to C and back as often: a kind that no event has.
+/// A station read, tested and refused as often: a kind that no event has.
 #[cfg(manta)]
-fn station_passed(marks: &[f32], width: usize) -> Loop<'_> {
+fn station_refused(times: usize, width: usize) -> Loop<'static> {
     use crate::hullathan::station as ours;
     Box::new(move || {
-        let mut s = ours::fresh(width, true).station;
-        for _ in 0..3 * marks.len() {
-            s = ours::call(s, 255, black_box(0.0), true).station;
+        let mut s = ours::fresh(width, true);
+        for _ in 0..times {
+            black_box(ours::call(&mut s, 255, 1, black_box(0.0)));
         }
         black_box(&s);
     })
@@ -617,22 +629,22 @@ fn station_passed(marks: &[f32], width: usize) -> Loop<'_> {
 pub fn station() {
     let names = [
         "manta's tracker and bank",
-        "the inner calls",
-        "the public calls, over C",
-        "a station passed to C and back",
+        "the calls, event by event",
+        "the same in batches of 64",
+        "calls that are refused, of a kind that no event has",
     ];
     for (who, marks) in [
         ("one sender", one_sender()),
         ("many senders", many_senders()),
     ] {
-        let gaps = heard(marks.clone()).gaps;
+        let list = events(&marks, &heard(marks.clone()).gaps);
         println!("| {who}, one mark, one gap, one switch call | width | ns | over the Rust |\n|---|---|---|---|");
         for width in [2, 8] {
             let loops = vec![
-                rust_watch(&marks, &gaps, width),
-                inner_watch(&marks, &gaps, width),
-                station_watch(&marks, &gaps, width),
-                station_passed(&marks, width),
+                rust_watch(&list, width),
+                station_watch(&list, width),
+                batch_watch(&list, width),
+                station_refused(list.len(), width),
             ];
             let times = medians_of(loops, 3);
             for (name, t) in names.iter().zip(&times) {

@@ -1,8 +1,44 @@
-//! The proved library, as `rt staticlib exports` writes it. Each function takes plain numbers, answers 0 or the number of a
-//! refusal, and leaves its result behind the reference; after a refusal what stood there is untouched.
+//! The proved library, as `rt staticlib exports` and, of the station, `rt staticlib hullathan` write it. Each function takes plain numbers,
+//! answers 0 or the number of a refusal, and leaves its result behind the reference; after a refusal what stood there is untouched.
 
 pub mod bank;
 pub mod station;
+
+use std::ops::Not;
+
+/// A flag as a byte, 0 or 1; in a bank's or a station's memory another byte may stand there, which no flag has.
+#[repr(transparent)]
+#[derive(Debug, Clone, Copy, Default, PartialEq)]
+pub struct Bit(pub u8);
+
+impl Bit {
+    pub const NO: Bit = Bit(0);
+    pub const YES: Bit = Bit(1);
+
+    /// Whether it says yes.
+    pub fn is(self) -> bool {
+        self.0 == 1
+    }
+
+    /// Whether it is a flag's.
+    pub fn is_flag(self) -> bool {
+        self.0 <= 1
+    }
+}
+
+impl From<bool> for Bit {
+    fn from(on: bool) -> Bit {
+        Bit(u8::from(on))
+    }
+}
+
+impl Not for Bit {
+    type Output = bool;
+
+    fn not(self) -> bool {
+        !self.is()
+    }
+}
 
 pub mod numbers {
     mod c {
@@ -231,12 +267,14 @@ pub mod sender {
 
 /// The speed tracker, as C has it.
 pub mod tracker {
+    use super::Bit;
+
     /// One mark of the ring.
     #[repr(C)]
     #[derive(Debug, Clone, Copy, Default)]
     pub struct RingEntry {
         pub dur_ms: f32,
-        pub assigned_dit: bool,
+        pub assigned_dit: Bit,
         pub pre_lo: f32,
         pub pre_hi: f32,
     }
@@ -248,9 +286,9 @@ pub mod tracker {
         pub hi: f32,
         pub init: [f32; 12],
         pub init_len: usize,
-        pub ready: bool,
-        pub confirmed: bool,
-        pub placeholder_is_lo: bool,
+        pub ready: Bit,
+        pub confirmed: Bit,
+        pub placeholder_is_lo: Bit,
         pub lo_n: usize,
     }
 
@@ -260,17 +298,17 @@ pub mod tracker {
         pub pair: ClusterPair,
         pub ring: [RingEntry; 12],
         pub ring_len: usize,
-        pub has_wpm: bool,
+        pub has_wpm: Bit,
         pub wpm_ema: f32,
         pub recent: [f32; 5],
         pub recent_len: usize,
-        pub has_egap: bool,
+        pub has_egap: Bit,
         pub mu_egap_ms: f32,
-        pub has_hint: bool,
+        pub has_hint: Bit,
         pub ratio_hint: f32,
         pub regime: u32,
-        pub badlock_recovered: bool,
-        pub lo_uncorroborated: bool,
+        pub badlock_recovered: Bit,
+        pub lo_uncorroborated: Bit,
     }
 
     #[repr(C)]

@@ -18,10 +18,12 @@ oracle bench numbers               nanoseconds for each call, beside Rust's own
 oracle bench tracker               nanoseconds for one mark, beside manta's
 oracle bench bank                  the same of a bank
 oracle bench station               nanoseconds for one mark, one gap and one switch call of a station
+oracle bench hosts                 nanoseconds for one event of a station, in the hosts' programs too where they are built
 oracle bench journal               lines a second, start and memory of the journal program, beside the Rust's
 oracle replay LAYER DIR            the fixed list of a layer's program: DIR/stdin, and DIR/stdout, what it must print
 oracle keyed [--width W] [--switching 0|1] [--seed S] {[--wpm N] [--ratio R] [--jitter PERCENT] TEXT | --line LINE}..
                                    the journal of keyed text, each option from its place on; a line has blanks for tabs
+oracle events [--count N]          the events of `bench hosts`, one a line: kind, live, the number's bits (12,288; after the last the first again)
 oracle examples DIR                the example journals and the Rust's answers: DIR/NAME.journal and DIR/NAME.out
 oracle journal                     document 01's journal program over manta's Rust: standard input to standard output
 ";
@@ -79,7 +81,7 @@ fn compare(name: &str, words: &[String]) -> Result<bool, String> {
 mod beside_manta {
     use super::{only, option};
     use oracle::{bench, examples, journal, layers, replay};
-    use std::io::{stdin, stdout};
+    use std::io::{stdin, stdout, Write};
 
     fn write(folder: &str, file: &str, bytes: &[u8]) -> Result<(), String> {
         let path = std::path::Path::new(folder).join(file);
@@ -119,12 +121,21 @@ mod beside_manta {
         done.is_ok()
     }
 
+    /// The events that the hosts' programs are measured on.
+    fn events(words: &[String]) -> Result<bool, String> {
+        only(words, &["--count"])?;
+        let count = option(words, "--count")?.unwrap_or(12_288);
+        let list = bench::hosts::list(count as usize);
+        Ok(stdout().write_all(list.as_bytes()).is_ok())
+    }
+
     fn bench(name: &str) -> Result<bool, String> {
         match name {
             "tracker" => bench::tracker(),
             "bank" => bench::bank(),
             "station" => bench::station(),
             "journal" => return bench::journal::report(),
+            "hosts" => return bench::hosts::report(),
             _ => return Err(format!("{name} is not measured")),
         }
         Ok(true)
@@ -136,6 +147,7 @@ mod beside_manta {
             ("examples", Some((folder, []))) => examples(folder),
             ("soak", Some((name, options))) if name == "journal" => soak(options),
             ("journal", None) => Ok(journal()),
+            ("events", _) => events(rest),
             ("bench", Some((name, []))) => bench(name),
             _ => Err("the command is not known".into()),
         }
@@ -175,7 +187,7 @@ fn command(words: &[String]) -> Result<bool, String> {
             let journal = oracle::keyed::command(rest)?;
             Ok(std::io::stdout().write_all(&journal).is_ok())
         }
-        ("replay" | "examples" | "soak" | "journal" | "bench", _) => {
+        ("replay" | "examples" | "soak" | "journal" | "events" | "bench", _) => {
             beside_manta::command(first, rest)
         }
         _ => Err("the command is not known".into()),

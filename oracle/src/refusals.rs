@@ -3,6 +3,7 @@
 use crate::hullathan::bank::{Bank, Hypothesis, Record};
 use crate::hullathan::station::Station;
 use crate::hullathan::tracker::SpeedTracker;
+use crate::hullathan::Bit;
 use crate::log01;
 
 /// A number within limits; a NaN is outside every range.
@@ -69,6 +70,11 @@ fn positive(held: bool, x: f32) -> bool {
     !held || x.is_finite() && x > 0.0
 }
 
+/// Of refusal 1, in the plain form of a state: each flag is 0 or 1.
+fn flags(all: &[Bit]) -> bool {
+    all.iter().all(|b| b.is_flag())
+}
+
 /// 1, of a tracker.
 pub fn tracker(t: &SpeedTracker) -> Result<(), u8> {
     let p = &t.pair;
@@ -81,7 +87,7 @@ pub fn tracker(t: &SpeedTracker) -> Result<(), u8> {
         &t.recent[..t.recent_len],
         &t.ring[..t.ring_len],
     );
-    let settled = if p.ready {
+    let settled = if p.ready.is() {
         centroids(p.lo, p.hi)
     } else {
         p.lo.to_bits() == 0 && p.hi.to_bits() == 0 && init.len() <= 4
@@ -92,11 +98,23 @@ pub fn tracker(t: &SpeedTracker) -> Result<(), u8> {
         .chain(recent)
         .copied()
         .chain(ring.iter().map(|e| e.dur_ms));
+    let named = [
+        p.ready,
+        p.confirmed,
+        p.placeholder_is_lo,
+        t.has_wpm,
+        t.has_egap,
+        t.has_hint,
+        t.badlock_recovered,
+        t.lo_uncorroborated,
+    ];
     let sound = settled
+        && flags(&named)
+        && ring.iter().all(|e| e.assigned_dit.is_flag())
         && held.into_iter().all(|d| duration(d).is_ok())
         && ring.iter().all(|e| centroids(e.pre_lo, e.pre_hi))
-        && positive(t.has_wpm, t.wpm_ema)
-        && positive(t.has_egap, t.mu_egap_ms)
+        && positive(t.has_wpm.is(), t.wpm_ema)
+        && positive(t.has_egap.is(), t.mu_egap_ms)
         && (!t.has_hint || within(2.2, 6.0, t.ratio_hint));
     if sound {
         Ok(())
@@ -114,17 +132,18 @@ fn score(x: f32) -> bool {
 fn hypothesis(h: &Hypothesis) -> bool {
     let (lo, hi) = (h.tracker.pair.lo, h.tracker.pair.hi);
     tracker(&h.tracker).is_ok()
-        && h.tracker.pair.ready
+        && h.tracker.pair.ready.is()
         && log01::ln(lo) == Ok(h.ln_lo)
         && log01::ln(hi) == Ok(h.ln_hi)
         && score(h.score)
         && score(h.gap_score)
         && h.origin <= 2
+        && h.reported.is_flag()
 }
 
 /// Of refusal 1: the dits of a switch record are held durations.
 fn record(r: &Record) -> bool {
-    duration(r.from_dit_ms).is_ok() && duration(r.to_dit_ms).is_ok()
+    duration(r.from_dit_ms).is_ok() && duration(r.to_dit_ms).is_ok() && r.applied.is_flag()
 }
 
 /// 1, of a bank.
@@ -143,7 +162,10 @@ pub fn bank(b: &Bank) -> Result<(), u8> {
         &b.streak[..b.streak_len],
         &b.streak_gaps[..b.streak_gaps_len],
     );
-    let sound = b.challengers[..b.challengers_len].iter().all(hypothesis)
+    let named = [b.switching, b.has_side, b.has_last_gap, b.has_pending];
+    let sound = flags(&named)
+        && (!b.has_side || b.streak_side.is_flag())
+        && b.challengers[..b.challengers_len].iter().all(hypothesis)
         && (!b.has_pending || b.pending < b.challengers_len)
         && gaps.len() <= streak.len()
         && score(b.primary_score)
@@ -258,7 +280,7 @@ mod tests {
             ..Bank::default()
         };
         let h = &mut b.challengers[0];
-        h.tracker.pair.ready = true;
+        h.tracker.pair.ready = Bit::YES;
         (h.tracker.pair.lo, h.tracker.pair.hi) = (60.0, 180.0);
         (h.ln_lo, h.ln_hi) = (log01::ln(60.0).unwrap(), log01::ln(180.0).unwrap());
         assert_eq!(bank(&b), Ok(()));
@@ -271,13 +293,25 @@ mod tests {
         assert_eq!(with(|b| b.challengers[0].origin = 3), Err(1));
         assert_eq!(with(|b| b.challengers[1].origin = 3), Ok(()));
         assert_eq!(with(|b| b.challengers[0].ln_hi = 5.0), Err(1));
+        assert_eq!(with(|b| b.challengers[0].reported = Bit(2)), Err(1));
+        assert_eq!(with(|b| b.challengers[1].reported = Bit(2)), Ok(()));
+        assert_eq!(with(|b| b.challengers[0].tracker.has_wpm = Bit(2)), Err(1));
         assert_eq!(
-            with(|b| b.challengers[0].tracker.pair.ready = false),
+            with(|b| b.challengers[0].tracker.ring[0].assigned_dit = Bit(2)),
+            Ok(())
+        );
+        assert_eq!(with(|b| b.switching = Bit(255)), Err(1));
+        assert_eq!(with(|b| b.streak_side = Bit(2)), Ok(()));
+        let side = |b: &mut Bank| (b.has_side, b.streak_side) = (Bit::YES, Bit(2));
+        assert_eq!(with(side), Err(1));
+        assert_eq!(with(|b| b.log[0].applied = Bit(2)), Ok(()));
+        assert_eq!(
+            with(|b| b.challengers[0].tracker.pair.ready = Bit::NO),
             Err(1)
         );
         assert_eq!(with(|b| b.challengers[0].score = -30.0), Ok(()));
         assert_eq!(with(|b| b.primary_gap_score = f32::from_bits(1)), Err(1));
-        assert_eq!(with(|b| (b.has_pending, b.pending) = (true, 1)), Err(1));
+        assert_eq!(with(|b| (b.has_pending, b.pending) = (Bit::YES, 1)), Err(1));
         assert_eq!(with(|b| b.streak_gaps_len = 1), Err(1));
         assert_eq!(with(|b| b.log_len = 1), Err(1));
         let counted = |n| counts(&Bank { gaps_seen: n, ..b });
@@ -298,7 +332,7 @@ mod tests {
         };
         (s.bank.width, s.bank.challengers_len, s.bank.started) = (2, 1, 5);
         let h = &mut s.bank.challengers[0];
-        h.tracker.pair.ready = true;
+        h.tracker.pair.ready = Bit::YES;
         (h.tracker.pair.lo, h.tracker.pair.hi) = (60.0, 180.0);
         (h.ln_lo, h.ln_hi) = (log01::ln(60.0).unwrap(), log01::ln(180.0).unwrap());
         assert_eq!((station(&s), calls(&s)), (Ok(()), Ok(())));

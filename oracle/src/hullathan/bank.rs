@@ -1,6 +1,7 @@
 //! The bank of rivals, as C has it: numbers in place of enums.
 
 use super::tracker::SpeedTracker;
+use super::Bit;
 
 /// One challenger; where it came from: 0 the bootstrap, 1 a streak, 2 a former primary.
 #[repr(C)]
@@ -13,7 +14,7 @@ pub struct Hypothesis {
     pub age_marks: u32,
     pub origin: u8,
     pub retain_marks: u32,
-    pub reported: bool,
+    pub reported: Bit,
     pub ln_lo: f32,
     pub ln_hi: f32,
     pub serial: u64,
@@ -26,14 +27,14 @@ pub struct Record {
     pub mark_index: u64,
     pub from_dit_ms: f32,
     pub to_dit_ms: f32,
-    pub applied: bool,
+    pub applied: Bit,
 }
 
 #[repr(C)]
 #[derive(Debug, Clone, Copy, Default)]
 pub struct Bank {
     pub width: usize,
-    pub switching: bool,
+    pub switching: Bit,
     pub primary_score: f32,
     pub primary_gap_score: f32,
     pub challengers: [Hypothesis; 8],
@@ -42,13 +43,13 @@ pub struct Bank {
     pub streak_len: usize,
     pub streak_gaps: [f32; 4],
     pub streak_gaps_len: usize,
-    pub has_side: bool,
-    pub streak_side: bool,
-    pub has_last_gap: bool,
+    pub has_side: Bit,
+    pub streak_side: Bit,
+    pub has_last_gap: Bit,
     pub last_gap: f32,
     pub marks_seen: u64,
     pub gaps_seen: u64,
-    pub has_pending: bool,
+    pub has_pending: Bit,
     pub pending: usize,
     pub log: [Record; 16],
     pub log_len: usize,
@@ -295,26 +296,26 @@ mod tests {
         );
     }
 
-    /// Every part of a bank comes back from the place where it was put.
+    /// Every part of a bank comes back from the place where it was put; what lies beyond a count comes back empty.
     #[test]
     fn every_part_arrives() {
         let mut b = Bank {
             width: 7,
-            switching: true,
+            switching: Bit::YES,
             primary_score: -1.0,
             primary_gap_score: -2.0,
             streak_len: 3,
             streak_gaps_len: 2,
-            has_side: true,
-            has_last_gap: true,
+            has_side: Bit::YES,
+            has_last_gap: Bit::YES,
             last_gap: 9.0,
             marks_seen: 1 << 40,
             gaps_seen: 1 << 41,
-            has_pending: true,
+            has_pending: Bit::YES,
             pending: 5,
-            log_len: 11,
+            log_len: 16,
             started: 1 << 42,
-            challengers_len: 6,
+            challengers_len: 8,
             ..Bank::default()
         };
         for (i, h) in b.challengers.iter_mut().enumerate() {
@@ -326,11 +327,16 @@ mod tests {
         }
         for (i, r) in b.log.iter_mut().enumerate() {
             r.to_dit_ms = i as f32;
-            r.applied = i % 2 == 0;
+            r.applied = Bit::from(i % 2 == 0);
         }
         b.streak = [1.0, 2.0, 3.0, 4.0];
         b.streak_gaps = [5.0, 6.0, 7.0, 8.0];
         let shown = |b: &Bank| format!("{b:?}");
         assert_eq!(shown(&b), shown(&same(b)));
+        (b.challengers_len, b.log_len) = (6, 11);
+        let mut cut = b;
+        cut.challengers[6..].fill(Hypothesis::default());
+        cut.log[11..].fill(Record::default());
+        assert_eq!(shown(&cut), shown(&same(b)));
     }
 }

@@ -1,7 +1,9 @@
-//! The station, as C has it: an event by its kind, 0 mark, 1 gap, 2 finish, 3 seed, 4 hint, 5 clear, 6 switch.
+//! The station in the host's own memory, as `rt staticlib hullathan` has it for C and Rust: an event by its kind, 0 mark, 1 gap, 2 finish,
+//! 3 seed, 4 hint, 5 clear, 6 switch. A code is one byte: 0 done, 1 became ready, 2 switched, 3 nothing to do; refused: 128 and the number.
 
 use super::bank::{Bank, Departure};
 use super::tracker::SpeedTracker;
+use super::Bit;
 
 #[repr(C)]
 #[derive(Debug, Clone, Copy, Default)]
@@ -14,61 +16,163 @@ pub struct Station {
     pub accepted: u64,
 }
 
+/// What a call answers: the dit, the dah, the primary's serial and the challengers are those after it.
 #[repr(C)]
-#[derive(Debug, Clone, Copy)]
-pub struct Answered {
-    pub refused: bool,
+#[derive(Debug, Clone, Copy, Default)]
+pub struct Answer {
     pub code: u8,
-    pub station: Station,
+    pub dit_ms: f32,
+    pub dah_ms: f32,
+    pub serial: u64,
+    pub challengers: usize,
     pub left: [Departure; 9],
     pub left_len: usize,
 }
 
+/// An event: `live`, of a mark, is 0 for no, and any other byte is yes.
+#[repr(C)]
+#[derive(Debug, Clone, Copy, Default)]
+pub struct Event {
+    pub kind: u8,
+    pub live: u8,
+    pub value: f32,
+}
+
+/// The most events of one batch.
+pub const MOST: usize = 64;
+
 #[repr(C)]
 #[derive(Debug, Clone, Copy)]
-pub struct Started {
+pub struct Batch {
+    pub len: usize,
+    pub events: [Event; MOST],
+    pub answers: [Answer; MOST],
+}
+
+#[repr(C)]
+#[derive(Debug, Clone, Copy, Default)]
+pub struct Rival {
+    pub serial: u64,
+    pub dit_ms: f32,
+    pub dah_ms: f32,
+    pub score: f32,
+    pub gap_score: f32,
+}
+
+/// What a display and a log need.
+#[repr(C)]
+#[derive(Debug, Clone, Copy, Default)]
+pub struct Reading {
     pub code: u8,
-    pub station: Station,
+    pub ready: Bit,
+    pub has_wpm: Bit,
+    pub switching: Bit,
+    pub width: usize,
+    pub dit_ms: f32,
+    pub dah_ms: f32,
+    pub dit_estimate_ms: f32,
+    pub wpm: f32,
+    pub score: f32,
+    pub gap_score: f32,
+    pub serial: u64,
+    pub accepted: u64,
+    pub marks: u64,
+    pub gaps: u64,
+    pub started: u64,
+    pub counts: [u64; 5],
+    pub challengers: usize,
+    pub rivals: [Rival; 8],
+}
+
+// Two of each are the same where every number is, bit for bit.
+
+impl PartialEq for Answer {
+    fn eq(&self, b: &Answer) -> bool {
+        let floats = |a: &Answer| [a.dit_ms, a.dah_ms].map(f32::to_bits);
+        let counts = |a: &Answer| (a.code, a.serial, a.challengers, a.left_len);
+        floats(self) == floats(b) && counts(self) == counts(b) && self.left == b.left
+    }
+}
+
+impl PartialEq for Event {
+    fn eq(&self, b: &Event) -> bool {
+        let all = |e: &Event| (e.kind, e.live, e.value.to_bits());
+        all(self) == all(b)
+    }
+}
+
+impl PartialEq for Rival {
+    fn eq(&self, b: &Rival) -> bool {
+        let floats = |h: &Rival| [h.dit_ms, h.dah_ms, h.score, h.gap_score].map(f32::to_bits);
+        self.serial == b.serial && floats(self) == floats(b)
+    }
+}
+
+impl PartialEq for Reading {
+    fn eq(&self, b: &Reading) -> bool {
+        let flags = |r: &Reading| (r.code, r.ready, r.has_wpm, r.switching);
+        let times = |r: &Reading| [r.dit_ms, r.dah_ms, r.dit_estimate_ms, r.wpm].map(f32::to_bits);
+        let scores = |r: &Reading| [r.score, r.gap_score].map(f32::to_bits);
+        let sizes = |r: &Reading| (r.width, r.challengers, r.rivals);
+        let totals = |r: &Reading| [r.serial, r.accepted, r.marks, r.gaps, r.started];
+        flags(self) == flags(b)
+            && times(self) == times(b)
+            && scores(self) == scores(b)
+            && sizes(self) == sizes(b)
+            && (totals(self), self.counts) == (totals(b), b.counts)
+    }
 }
 
 mod c {
     use super::*;
 
     extern "C" {
-        pub fn hullathan_station_fresh(width: usize, switching: bool) -> Started;
-        pub fn hullathan_station_call(s: Station, kind: u8, value: f32, live: bool) -> Answered;
-        pub fn hullathan_inner_station_watch(
-            s: Station,
-            kinds: *const u8,
-            kinds_len: usize,
-            values: *const f32,
-            values_len: usize,
-        ) -> Station;
+        pub fn hullathan_start(s: *mut Station, width: usize, switching: u8) -> u8;
+        pub fn hullathan_call(s: *mut Station, kind: u8, live: u8, value: f32) -> Answer;
+        pub fn hullathan_run(s: *mut Station, b: *mut Batch) -> u8;
+        pub fn hullathan_read(s: *const Station) -> Reading;
     }
 }
 
-// Safety of each: the library is proved to take every number.
+// Safety of each: the library is proved to take whatever stands in the station and the batch, and to touch nothing else.
 
-pub fn fresh(width: usize, switching: bool) -> Started {
-    unsafe { c::hullathan_station_fresh(width, switching) }
+pub fn start(s: &mut Station, width: usize, switching: u8) -> u8 {
+    unsafe { c::hullathan_start(s, width, switching) }
 }
 
-pub fn call(s: Station, kind: u8, value: f32, live: bool) -> Answered {
-    unsafe { c::hullathan_station_call(s, kind, value, live) }
+pub fn call(s: &mut Station, kind: u8, live: u8, value: f32) -> Answer {
+    unsafe { c::hullathan_call(s, kind, live, value) }
 }
 
-/// A watch of events, each mark live, by the inner call.
-///
-/// # Safety
-/// The station comes from a fresh one by calls, and there are as many numbers as kinds.
-pub unsafe fn inner_watch(s: Station, kinds: &[u8], values: &[f32]) -> Station {
-    c::hullathan_inner_station_watch(
-        s,
-        kinds.as_ptr(),
-        kinds.len(),
-        values.as_ptr(),
-        values.len(),
-    )
+pub fn run(s: &mut Station, b: &mut Batch) -> u8 {
+    unsafe { c::hullathan_run(s, b) }
+}
+
+pub fn read(s: &Station) -> Reading {
+    unsafe { c::hullathan_read(s) }
+}
+
+/// A fresh station; of width 1 where the width is above 8.
+pub fn fresh(width: usize, switching: bool) -> Station {
+    let mut s = Station::default();
+    start(&mut s, width, u8::from(switching));
+    s
+}
+
+impl Batch {
+    pub fn new() -> Batch {
+        Batch {
+            len: 0,
+            events: [Event::default(); MOST],
+            answers: [Answer::default(); MOST],
+        }
+    }
+}
+
+impl Default for Batch {
+    fn default() -> Batch {
+        Batch::new()
+    }
 }
 
 #[cfg(test)]
@@ -84,7 +188,71 @@ mod tests {
         assert_eq!(offset_of!(Station, bank), tracker + 8);
         assert_eq!(offset_of!(Station, counts), tracker + 8 + 3656);
         assert_eq!(size_of::<Station>(), tracker + 8 + 3656 + 48);
-        assert_eq!(offset_of!(Answered, station), 8);
-        assert_eq!(offset_of!(Answered, left), 8 + size_of::<Station>());
+        assert_eq!((size_of::<Answer>(), offset_of!(Answer, left)), (184, 32));
+        assert_eq!((size_of::<Event>(), offset_of!(Event, value)), (8, 4));
+        assert_eq!(offset_of!(Batch, answers), 8 + 64 * 8);
+        assert_eq!((size_of::<Rival>(), offset_of!(Rival, gap_score)), (24, 20));
+        assert_eq!(offset_of!(Reading, width), 8);
+        assert_eq!(offset_of!(Reading, serial), 40);
+        assert_eq!(offset_of!(Reading, rivals), 40 + 11 * 8);
+    }
+
+    mod c {
+        use super::*;
+
+        extern "C" {
+            pub fn hullathan_layout_station() -> Station;
+            pub fn hullathan_layout_answer() -> Answer;
+            pub fn hullathan_layout_batch() -> Batch;
+            pub fn hullathan_layout_reading() -> Reading;
+        }
+    }
+
+    /// Each number of the library's own structs stands where it is looked for here: it holds its place, and the last of a list 100 more.
+    #[test]
+    fn every_part_arrives() {
+        let s = unsafe { c::hullathan_layout_station() };
+        assert_eq!((s.serial, s.counts, s.accepted), (2, [4, 5, 6, 7, 8], 9));
+        let (p, b) = (&s.primary, &s.bank);
+        assert_eq!((p.pair.hi.to_bits(), p.pair.lo_n), (2, 8));
+        assert_eq!(
+            (p.pair.init[0].to_bits(), p.pair.init[11].to_bits()),
+            (3, 103)
+        );
+        assert_eq!(
+            (p.ring[0].assigned_dit, p.ring[11].assigned_dit),
+            (Bit(2), Bit(102))
+        );
+        assert_eq!((p.has_wpm, p.lo_uncorroborated), (Bit(4), Bit(14)));
+        assert_eq!(
+            (b.switching, b.has_pending, b.started),
+            (Bit(2), Bit(17), 21)
+        );
+        let (first, last) = (&b.challengers[0], &b.challengers[7]);
+        assert_eq!((first.origin, first.serial), (6, 11));
+        assert_eq!(
+            (last.reported, last.serial, last.tracker.regime),
+            (Bit(108), 111, 12)
+        );
+        assert_eq!((b.log[0].applied, b.log[15].applied), (Bit(4), Bit(104)));
+        let a = unsafe { c::hullathan_layout_answer() };
+        assert_eq!((a.code, a.dah_ms.to_bits(), a.serial), (1, 3, 4));
+        assert_eq!(
+            (a.left[8].serial, a.left[8].cause, a.left_len),
+            (101, 102, 7)
+        );
+        let q = unsafe { c::hullathan_layout_batch() };
+        assert_eq!((q.len, q.events[0].live, q.events[63].kind), (1, 2, 101));
+        assert_eq!((q.answers[0].code, q.answers[63].left_len), (1, 107));
+        let r = unsafe { c::hullathan_layout_reading() };
+        assert_eq!((r.code, r.switching, r.wpm.to_bits()), (1, Bit(4), 9));
+        assert_eq!(
+            (r.serial, r.counts, r.challengers),
+            (12, [17, 18, 19, 20, 21], 22)
+        );
+        assert_eq!(
+            (r.rivals[0].serial, r.rivals[7].gap_score.to_bits()),
+            (1, 105)
+        );
     }
 }

@@ -97,18 +97,18 @@ fn hypothesis(h: &Hypothesis) -> String {
     if h.origin == 2 {
         s += &count(h.retain_marks as usize);
     }
-    s + &flag(h.reported) + &number(h.ln_lo) + &number(h.ln_hi) + &tracker(&h.tracker)
+    s + &flag(h.reported.is()) + &number(h.ln_lo) + &number(h.ln_hi) + &tracker(&h.tracker)
 }
 
 fn record(r: &Record) -> String {
-    long(r.mark_index) + &number(r.from_dit_ms) + &number(r.to_dit_ms) + &flag(r.applied)
+    long(r.mark_index) + &number(r.from_dit_ms) + &number(r.to_dit_ms) + &flag(r.applied.is())
 }
 
 /// What changes most.
 fn short(b: &Bank) -> String {
     let mut s = count(b.challengers_len) + &number(b.primary_score) + &number(b.primary_gap_score);
-    s += &(long(b.marks_seen) + &long(b.gaps_seen) + &flag(b.has_pending));
-    if b.has_pending {
+    s += &(long(b.marks_seen) + &long(b.gaps_seen) + &flag(b.has_pending.is()));
+    if b.has_pending.is() {
         s += &count(b.pending);
     }
     s + &long(b.started)
@@ -116,7 +116,7 @@ fn short(b: &Bank) -> String {
 
 /// A bank: its parts in order. Of a count above its capacity all places are shown.
 fn whole(b: &Bank) -> String {
-    let mut s = count(b.width) + &flag(b.switching) + &short(b) + &count(b.challengers_len);
+    let mut s = count(b.width) + &flag(b.switching.is()) + &short(b) + &count(b.challengers_len);
     s.extend(b.challengers.iter().take(b.challengers_len).map(hypothesis));
     s += &count(b.streak_len);
     s.extend(b.streak.iter().take(b.streak_len).map(|&m| number(m)));
@@ -127,11 +127,11 @@ fn whole(b: &Bank) -> String {
             .take(b.streak_gaps_len)
             .map(|&g| number(g)),
     );
-    s += &flag(b.has_side);
-    if b.has_side {
-        s += &flag(b.streak_side);
+    s += &flag(b.has_side.is());
+    if b.has_side.is() {
+        s += &flag(b.streak_side.is());
     }
-    s += &(held(b.has_last_gap, b.last_gap) + &count(b.log_len));
+    s += &(held(b.has_last_gap.is(), b.last_gap) + &count(b.log_len));
     s.extend(b.log.iter().take(b.log_len).map(record));
     s
 }

@@ -25,6 +25,8 @@ fn far(b: &Branch) -> bool {
         "refused by 1:",
         "refused by 1 ",
         "refused by 2",
+        "refused by 12",
+        "batch",
         "accepted",
         "sound",
     ];

@@ -69,9 +69,9 @@ pub fn tracker(t: &Plain) -> String {
     let mut s = number(p.lo) + &number(p.hi) + &count(p.init_len);
     s.extend(p.init.iter().take(p.init_len).map(|&v| number(v)));
     s += &[
-        flag(p.ready),
-        flag(p.confirmed),
-        flag(p.placeholder_is_lo),
+        flag(p.ready.is()),
+        flag(p.confirmed.is()),
+        flag(p.placeholder_is_lo.is()),
         count(p.lo_n),
     ]
     .concat();
@@ -79,16 +79,18 @@ pub fn tracker(t: &Plain) -> String {
     for e in t.ring.iter().take(t.ring_len) {
         s += &[
             number(e.dur_ms),
-            flag(e.assigned_dit),
+            flag(e.assigned_dit.is()),
             number(e.pre_lo),
             number(e.pre_hi),
         ]
         .concat();
     }
-    s += &(held(t.has_wpm, t.wpm_ema) + &count(t.recent_len));
+    s += &(held(t.has_wpm.is(), t.wpm_ema) + &count(t.recent_len));
     s.extend(t.recent.iter().take(t.recent_len).map(|&v| number(v)));
-    s += &(held(t.has_egap, t.mu_egap_ms) + &held(t.has_hint, t.ratio_hint));
-    s + &count(t.regime as usize) + &flag(t.badlock_recovered) + &flag(t.lo_uncorroborated)
+    s += &(held(t.has_egap.is(), t.mu_egap_ms) + &held(t.has_hint.is(), t.ratio_hint));
+    s + &count(t.regime as usize)
+        + &flag(t.badlock_recovered.is())
+        + &flag(t.lo_uncorroborated.is())
 }
 
 /// The lines that answer a call; a gap that is put on the list has none.

@@ -3,6 +3,7 @@
 use super::{Call, Part};
 use crate::hullathan::bank::{Bank, Hypothesis, Record};
 use crate::hullathan::tracker::SpeedTracker as Plain;
+use crate::hullathan::Bit;
 use crate::keying::{Sender, Style};
 use crate::layers::tracker;
 use crate::layers::tracker::cases::{about, centroids, good, sound, INFINITY, MINUS, NAN, ODD};
@@ -220,7 +221,7 @@ fn lned(h: &mut Hypothesis) {
 fn hypothesis(random: &mut Random) -> Hypothesis {
     let mut tracker = sound(random);
     if !tracker.pair.ready {
-        tracker.pair.ready = true;
+        tracker.pair.ready = Bit::YES;
         (tracker.pair.lo, tracker.pair.hi) = centroids(random);
     }
     let mut h = Hypothesis {
@@ -231,7 +232,7 @@ fn hypothesis(random: &mut Random) -> Hypothesis {
         age_marks: random.pick(&[0, 1, 2, 6, 7, 8, 30, 62, 63, 64, u32::MAX]),
         origin: random.below(3) as u8,
         retain_marks: random.pick(&[0, 1, 2, 24, u32::MAX]),
-        reported: random.below(2) == 0,
+        reported: Bit::from(random.below(2) == 0),
         ..Hypothesis::default()
     };
     lned(&mut h);
@@ -245,7 +246,7 @@ fn log(random: &mut Random, b: &mut Bank) {
             mark_index: random.below(1 << 32),
             from_dit_ms: good(random),
             to_dit_ms: good(random),
-            applied: random.below(2) == 0,
+            applied: Bit::from(random.below(2) == 0),
         };
     }
 }
@@ -254,8 +255,8 @@ fn log(random: &mut Random, b: &mut Bank) {
 fn streak(random: &mut Random, b: &mut Bank) {
     b.streak_len = random.pick(&[0, 1, 2, 3, 3, 3, 4]);
     b.streak_gaps_len = random.below(b.streak_len as u64 + 1) as usize;
-    b.has_side = b.streak_len > 0 || random.below(3) > 0;
-    b.streak_side = random.below(2) == 0;
+    b.has_side = Bit::from(b.streak_len > 0 || random.below(3) > 0);
+    b.streak_side = Bit::from(random.below(2) == 0);
     let unit = random.scale(20.0, 450.0) as f32;
     for i in 0..4 {
         let near = 0.9 + 0.2 * random.fraction() as f32;
@@ -267,8 +268,8 @@ fn streak(random: &mut Random, b: &mut Bank) {
         let gap = good(random);
         b.streak_gaps[i] = if i < b.streak_gaps_len { gap } else { -1.0 };
     }
-    b.has_last_gap = random.below(2) == 0;
-    b.last_gap = if b.has_last_gap {
+    b.has_last_gap = Bit::from(random.below(2) == 0);
+    b.last_gap = if b.has_last_gap.is() {
         good(random)
     } else {
         f32::NAN
@@ -279,7 +280,7 @@ fn streak(random: &mut Random, b: &mut Bank) {
 pub fn sound_bank(random: &mut Random) -> Bank {
     let mut b = Bank {
         width: random.pick(&[1, 2, 2, 3, 4, 8, 8]),
-        switching: random.below(2) == 0,
+        switching: Bit::from(random.below(2) == 0),
         primary_score: score(random),
         primary_gap_score: score(random),
         marks_seen: random.pick(&[0, 5, 77, 4_294_967_293, 4_294_967_294]),
@@ -301,8 +302,8 @@ pub fn sound_bank(random: &mut Random) -> Bank {
         }
     }
     streak(random, &mut b);
-    b.has_pending = n > 0 && random.below(3) == 0;
-    b.pending = match b.has_pending {
+    b.has_pending = Bit::from(n > 0 && random.below(3) == 0);
+    b.pending = match b.has_pending.is() {
         true => random.below(n as u64) as usize,
         false => random.pick(&[0, 8, usize::MAX]),
     };
@@ -314,11 +315,11 @@ pub fn sound_bank(random: &mut Random) -> Bank {
 fn primary(random: &mut Random) -> Plain {
     let mut t = sound(random);
     if !t.pair.ready && random.below(8) > 0 {
-        t.pair.ready = true;
+        t.pair.ready = Bit::YES;
         (t.pair.lo, t.pair.hi) = centroids(random);
     }
     if random.below(3) == 0 {
-        (t.pair.confirmed, t.pair.lo_n) = (true, 1);
+        (t.pair.confirmed, t.pair.lo_n) = (Bit::YES, 1);
     }
     t
 }
@@ -402,7 +403,7 @@ fn exactly(primary: f32, lead: f32) -> f32 {
 pub fn contested(random: &mut Random) -> Vec<Call> {
     let mut b = sound_bank(random);
     let mut p = primary(random);
-    (p.pair.ready, p.pair.lo, p.pair.hi) = (true, 50.0, 150.0);
+    (p.pair.ready, p.pair.lo, p.pair.hi) = (Bit::YES, 50.0, 150.0);
     b.marks_seen %= 1_000;
     b.gaps_seen %= 1_000;
     b.width = random.pick(&[2, 3, 4, 8]);
@@ -430,7 +431,7 @@ pub fn contested(random: &mut Random) -> Vec<Call> {
         h.tracker.pair.hi = (lo * 5.5).min(900.0);
         lned(h);
     }
-    b.has_pending = false;
+    b.has_pending = Bit::NO;
     let mut calls = hand(b, p, 0);
     let live = random.below(3) == 0;
     for _ in 0..3 {
@@ -447,10 +448,10 @@ pub fn contested(random: &mut Random) -> Vec<Call> {
 pub fn crowded(random: &mut Random) -> Vec<Call> {
     let mut b = sound_bank(random);
     let mut p = primary(random);
-    (p.pair.ready, p.pair.lo, p.pair.hi) = (true, 60.0, 180.0);
+    (p.pair.ready, p.pair.lo, p.pair.hi) = (Bit::YES, 60.0, 180.0);
     b.width = random.pick(&[2, 3, 4]);
     b.challengers_len = b.width - 1;
-    (b.marks_seen, b.gaps_seen, b.has_pending) = (9, 9, false);
+    (b.marks_seen, b.gaps_seen, b.has_pending) = (9, 9, Bit::NO);
     b.primary_score = -3.0;
     let equal = random.pick(&[-4.0, -14.0]);
     for h in &mut b.challengers {
@@ -461,7 +462,7 @@ pub fn crowded(random: &mut Random) -> Vec<Call> {
     let unit = random.pick(&[25.0, 40.0, 60.0, 100.0, 180.0, 300.0, 450.0, 700.0]);
     b.streak_len = 3;
     b.streak_gaps_len = b.streak_gaps_len.min(3);
-    (b.has_side, b.streak_side) = (true, unit >= 103.9);
+    (b.has_side, b.streak_side) = (Bit::YES, Bit::from(unit >= 103.9));
     for m in &mut b.streak {
         *m = unit * (0.95 + 0.1 * random.fraction() as f32);
     }
@@ -528,27 +529,37 @@ fn other_logarithm(random: &mut Random, h: &mut Hypothesis) {
     *x = f32::from_bits(random.pick(&[bits + 1, bits - 1, NAN, INFINITY, MINUS]));
 }
 
+/// A number that no flag has, in the place of one of these.
+pub fn no_flag(random: &mut Random, flags: Vec<&mut Bit>) {
+    let i = random.below(flags.len() as u64) as usize;
+    let other = random.pick(&[2, 3, 128, 254, 255]);
+    *flags.into_iter().nth(i).expect("below their number") = Bit(other);
+}
+
 /// A part of a bank at one of its limits, from either side.
 pub fn limit(random: &mut Random, b: &mut Bank) {
     let i = random.below(8) as u8;
     let rival = usize::from(i % 2);
-    match random.below(17) {
+    match random.below(18) {
         0..=5 => {
             let (part, v) = count_limit(random);
             super::parts::set(b, part, 0, v);
         }
         6..=11 => {
             let (part, v) = number_limit(random);
-            b.has_last_gap |= part == Part::LastGap;
+            if part == Part::LastGap {
+                b.has_last_gap = Bit::YES;
+            }
             super::parts::set(b, part, i % 2, v);
         }
         12 => {
-            b.has_pending = true;
+            b.has_pending = Bit::YES;
             b.pending = random.pick(&[0, 1, 2, 7, 8, usize::MAX]);
         }
         13 => b.challengers[rival].origin = random.pick(&[2, 3, 255]),
         14 => other_logarithm(random, &mut b.challengers[rival]),
         15 => b.challengers[rival].tracker = Plain::default(),
+        16 => no_flag(random, super::flags(b)),
         _ => tracker::cases::limit(random, &mut b.challengers[rival].tracker),
     }
 }
@@ -560,7 +571,7 @@ fn damaged(random: &mut Random) -> Vec<Call> {
     match random.below(6) {
         0 => tracker::cases::limit(random, &mut p),
         1 => {
-            b.has_pending = b.challengers_len > 0;
+            b.has_pending = Bit::from(b.challengers_len > 0);
             b.pending = 0;
             p = sound(random);
         }

@@ -5,6 +5,7 @@ use super::state::manta;
 use super::{floats, held, Answer, Call, Told};
 use crate::hullathan::bank::{Bank, Hypothesis};
 use crate::hullathan::tracker::SpeedTracker as Plain;
+use crate::hullathan::Bit;
 use crate::layers::tracker;
 use crate::log01;
 use crate::manta::timing::bank::{duplicates, ln_centroids, Origin, TimingHypothesis};
@@ -231,14 +232,14 @@ fn mark(before: &Bank, after: &Bank, primary: &Plain, heard: (f32, bool), answer
     }
     MARK_LIVE.when(live);
     MARK_SILENT.when(!live);
-    SILENT_GAP.when(!live && before.has_last_gap);
+    SILENT_GAP.when(!live && before.has_last_gap.is());
     SILENT_STREAK.when(!live && before.streak_len > 0);
     SCORE_FLOOR.when(after.primary_score == 0.9 * before.primary_score + -3.0);
     for h in held(before) {
         AGE_FULL.when(h.age_marks == u32::MAX);
         PROTECTION_FALLS.when(h.origin == 2 && h.retain_marks > 1);
         PROTECTION_ENDS.when(h.origin == 2 && h.retain_marks == 1);
-        LEARNT_RECOVERED.when(live && h.tracker.badlock_recovered);
+        LEARNT_RECOVERED.when(live && h.tracker.badlock_recovered.is());
     }
     let rust = tracker::manta(primary);
     let candidate = live && streak(before, &rust, d);
@@ -263,16 +264,16 @@ fn wide(before: &Bank, primary: &SpeedTracker, d: f32, live: bool) -> TimingBank
 /// The streak with this mark; whether it makes a candidate.
 fn streak(before: &Bank, primary: &SpeedTracker, d: f32) -> bool {
     let side = d >= primary.boundary_ms();
-    let same = before.has_side && before.streak_side == side;
+    let same = before.has_side.is() && before.streak_side == Bit::from(side);
     let on = same && before.streak_len < 4;
     STREAK_EQUAL.when(d == primary.boundary_ms());
     STREAK_BEGINS.when(!before.has_side);
-    STREAK_TURNS.when(before.has_side && !same);
+    STREAK_TURNS.when(before.has_side.is() && !same);
     STREAK_FULL.when(same && !on);
     STREAK_LOW.when(on && !side);
     STREAK_HIGH.when(on && side);
-    STREAK_GAP.when(on && before.has_last_gap);
-    STREAK_GAPS_4.when(on && before.has_last_gap && before.streak_gaps_len == 3);
+    STREAK_GAP.when(on && before.has_last_gap.is());
+    STREAK_GAPS_4.when(on && before.has_last_gap.is() && before.streak_gaps_len == 3);
     on && before.streak_len == 3
 }
 
@@ -281,9 +282,9 @@ fn four(before: &Bank, after: &Bank, primary: &SpeedTracker, d: f32, wide: &Timi
     let mut marks = before.streak[..3].to_vec();
     marks.push(d);
     let mut gaps = before.streak_gaps[..before.streak_gaps_len].to_vec();
-    gaps.extend(before.has_last_gap.then_some(before.last_gap));
+    gaps.extend(before.has_last_gap.is().then_some(before.last_gap));
     CANDIDATE_LOW.when(!before.streak_side);
-    CANDIDATE_HIGH.when(before.streak_side);
+    CANDIDATE_HIGH.when(before.streak_side.is());
     let mut c = SpeedTracker::from_marks(&marks, &gaps);
     if duplicates(ln_centroids(&c), ln_centroids(primary)) {
         match c.three_to_one_alternative() {
@@ -365,16 +366,16 @@ fn choice(before: &Bank, after: &Bank) {
         LEAD_FOUR.when(h.score - primary == 4.0);
         let Some(old) = same(before, h) else { continue };
         LEAD_LOST.when(old.lead_marks > 0 && h.lead_marks == 0);
-        REPORT_LOST.when(old.reported && !h.reported);
+        REPORT_LOST.when(old.reported.is() && !h.reported);
         LEAD_FULL.when(old.lead_marks == u32::MAX && h.lead_marks == u32::MAX);
         let leads = h.lead_marks >= 2;
         YOUNG.when(leads && h.age_marks < 2);
         VETO.when(leads && h.age_marks >= 2 && h.gap_score < after.primary_gap_score);
         VETO_EQUAL.when(leads && h.age_marks >= 2 && h.gap_score == after.primary_gap_score);
     }
-    PENDING.when(after.has_pending);
-    PENDING_LOST.when(before.has_pending && !after.has_pending);
-    if after.has_pending {
+    PENDING.when(after.has_pending.is());
+    PENDING_LOST.when(before.has_pending.is() && !after.has_pending);
+    if after.has_pending.is() {
         let first = &after.challengers[after.pending];
         PENDING_LATER.when(after.pending > 0);
         let equal = |h: &&Hypothesis| {
@@ -401,7 +402,7 @@ fn gap(before: &Bank, after: &Bank, primary: &Plain, d: f32) {
     let greatest = units.iter().copied().fold(unit, f32::max);
     if d >= 12.0 * greatest {
         GAP_PAUSE.reached();
-        GAP_PAUSE_HELD.when(before.has_last_gap);
+        GAP_PAUSE_HELD.when(before.has_last_gap.is());
         GAP_TWELVE.when(d == 12.0 * greatest);
         return;
     }
@@ -427,8 +428,8 @@ fn ready(before: &Bank, after: &Bank, primary: &Plain, marks: &[f32]) {
     let other = if !p.confirmed {
         let other = rust.three_to_one_alternative();
         READY_DAHS.when(other.is_some() && !p.placeholder_is_lo);
-        READY_DITS.when(other.is_some() && p.placeholder_is_lo);
-        READY_RANGE.when(p.ready && other.is_none());
+        READY_DITS.when(other.is_some() && p.placeholder_is_lo.is());
+        READY_RANGE.when(p.ready.is() && other.is_none());
         other
     } else {
         READY_NONE.when(p.lo_n != 1);
@@ -460,7 +461,7 @@ fn clear(before: &Bank) {
     CLEAR_OFF.when(!on);
     CLEAR_SOME.when(on && before.challengers_len > 0);
     CLEAR_NONE.when(on && before.challengers_len == 0);
-    CLEAR_PENDING.when(on && before.has_pending);
+    CLEAR_PENDING.when(on && before.has_pending.is());
 }
 
 fn switch(before: &Bank, primary: &Plain, answer: &Answer) {
@@ -474,9 +475,9 @@ fn switch(before: &Bank, primary: &Plain, answer: &Answer) {
     let yes = matches!(answer.told, Told::Flag(true));
     SWITCHED.when(yes);
     SWITCHED_BACK.when(yes && h.origin == 2);
-    SWITCHED_RECOVERED.when(yes && h.tracker.badlock_recovered);
+    SWITCHED_RECOVERED.when(yes && h.tracker.badlock_recovered.is());
     OBSERVED.when(!yes && !h.reported);
-    OBSERVED_AGAIN.when(!yes && h.reported);
+    OBSERVED_AGAIN.when(!yes && h.reported.is());
     LOG_FULL.when(before.log_len == 16 && (yes || !h.reported));
 }
 
@@ -548,7 +549,7 @@ fn unsound(b: &Bank, primary: &Plain, call: &Call) {
     ];
     COUNT_LARGE.when(counts.contains(&(u32::MAX as usize)));
     MORE_GAPS.when(b.streak_gaps_len == b.streak_len + 1);
-    PENDING_AT.when(b.has_pending && b.pending == b.challengers_len);
+    PENDING_AT.when(b.has_pending.is() && b.pending == b.challengers_len);
     for x in [b.primary_score, b.primary_gap_score] {
         SCORE_LOW.when(x == next(-30.0));
         SCORE_HIGH.when(x.to_bits() == 1);
@@ -560,7 +561,7 @@ fn unsound(b: &Bank, primary: &Plain, call: &Call) {
     let bad = |list: &[f32], n: usize| list.iter().take(n).any(|&d| refusals::duration(d).is_err());
     HELD_STREAK.when(bad(&b.streak, b.streak_len));
     HELD_STREAK_GAP.when(bad(&b.streak_gaps, b.streak_gaps_len));
-    HELD_GAP.when(b.has_last_gap && bad(&[b.last_gap], 1));
+    HELD_GAP.when(b.has_last_gap.is() && bad(&[b.last_gap], 1));
     for r in b.log.iter().take(b.log_len) {
         HELD_FROM.when(bad(&[r.from_dit_ms], 1));
         HELD_TO.when(bad(&[r.to_dit_ms], 1));
@@ -598,7 +599,7 @@ fn sound(b: &Bank) {
     let dits = b.log[..b.log_len]
         .iter()
         .flat_map(|r| [r.from_dit_ms, r.to_dit_ms]);
-    HELD_LIMITS.when(b.has_last_gap && limit(b.last_gap) || dits.into_iter().any(limit));
+    HELD_LIMITS.when(b.has_last_gap.is() && limit(b.last_gap) || dits.into_iter().any(limit));
     ABSENT.when(
         !b.has_last_gap
             && b.last_gap.is_nan()

@@ -115,6 +115,7 @@ pub fn left_at_clear(before: &Bank, after: &TimingBank) -> Vec<Departure> {
 mod tests {
     use super::*;
     use crate::hullathan::bank::Hypothesis;
+    use crate::hullathan::Bit;
 
     fn rival(serial: u64, lo: f32) -> Hypothesis {
         let mut h = Hypothesis {
@@ -124,7 +125,7 @@ mod tests {
             ..Hypothesis::default()
         };
         let p = &mut h.tracker.pair;
-        (p.ready, p.confirmed, p.lo, p.hi) = (true, true, lo, 3.0 * lo);
+        (p.ready, p.confirmed, p.lo, p.hi) = (Bit::YES, Bit::YES, lo, 3.0 * lo);
         h
     }
 

@@ -20,7 +20,7 @@ use std::fmt;
 
 pub use cases::random as random_case;
 pub use count::reached;
-pub use parts::{spelled, Part, PARTS};
+pub use parts::{flags, spelled, Part, PARTS};
 
 /// A call, its numbers by their bits; or a part of the bank, all of it, or the primary, set on both sides before the next call.
 #[derive(Clone)]
@@ -126,7 +126,7 @@ impl Answer {
 struct Back {
     code: u8,
     yes: bool,
-    left: Vec<Departure>,
+    left: (Vec<Departure>, bool),
     bank: Bank,
     primary: Plain,
     serial: u64,
@@ -141,7 +141,7 @@ fn refusal(b: &Bank, primary: &Plain, call: &Call) -> Result<(), u8> {
     ) {
         refusals::tracker(primary)?;
     }
-    if matches!(call, Call::Switch) && b.has_pending && !primary.pair.ready {
+    if matches!(call, Call::Switch) && b.has_pending.is() && !primary.pair.ready {
         return Err(1);
     }
     if !matches!(call, Call::Read(_)) {
@@ -158,8 +158,11 @@ fn refusal(b: &Bank, primary: &Plain, call: &Call) -> Result<(), u8> {
     }
 }
 
-fn departures(left: &[Departure], n: usize) -> Vec<Departure> {
-    left[..n.min(9)].to_vec()
+/// Those that left; beyond their number an answer has zeros.
+fn departures(left: &[Departure], n: usize) -> (Vec<Departure>, bool) {
+    let (gone, beyond) = left.split_at(n.min(9));
+    let zeros = beyond.iter().all(|d| *d == Departure::default());
+    (gone.to_vec(), zeros)
 }
 
 /// Both sides of a run: the library's bank and primary, the Rust's, and what was followed.
@@ -299,7 +302,7 @@ impl Both {
             Call::Clear => answered(ours::clear(b)),
             Call::Gap(d) => {
                 let r = ours::on_gap(b, primary, f32::from_bits(*d));
-                back(r.code, r.bank, Vec::new())
+                back(r.code, r.bank, (Vec::new(), true))
             }
             _ => {
                 let r = ours::take_switch(b, primary, serial);
@@ -307,7 +310,7 @@ impl Both {
                     yes: r.yes,
                     primary: r.primary,
                     serial: r.serial,
-                    ..back(r.code, r.bank, Vec::new())
+                    ..back(r.code, r.bank, (Vec::new(), true))
                 }
             }
         }
@@ -321,6 +324,7 @@ impl Both {
             .err()
             .unwrap_or(0);
         agree(call, "the code", back.code, code)?;
+        agree(call, "zeros beyond those that left", back.left.1, true)?;
         if matches!(call, Call::Switch) {
             self.lent(call, &back)?;
         }
@@ -333,7 +337,7 @@ impl Both {
         agree(
             call,
             "those that left",
-            sorted(&back.left),
+            sorted(&back.left.0),
             sorted(&expected.left),
         )?;
         agree(call, "the primary's serial", back.serial, expected.serial)?;
@@ -385,7 +389,7 @@ impl Both {
     fn refused(&self, call: &Call, back: Back) -> Result<Answer, Difference> {
         let kept = state::identical(&self.ours, &back.bank)
             && tracker::identical(&self.primary.ours, &back.primary)
-            && (back.serial, back.yes, back.left.len()) == (self.serial, false, 0);
+            && (back.serial, back.yes, back.left.0.len()) == (self.serial, false, 0);
         agree(call, "refused: all is handed back as it was", kept, true)?;
         Ok(Answer {
             code: back.code,

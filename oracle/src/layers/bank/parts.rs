@@ -2,6 +2,7 @@
 
 use super::Call;
 use crate::hullathan::bank::{Bank, Hypothesis};
+use crate::hullathan::Bit;
 use crate::layers::tracker;
 
 /// A part; those that begin with `Of` are a challenger's.
@@ -92,7 +93,7 @@ fn set_hypothesis(h: &mut Hypothesis, part: Part, v: u32) {
         Part::OfAge => h.age_marks = v,
         Part::OfOrigin => h.origin = (v % 256) as u8,
         Part::OfRetain => h.retain_marks = v,
-        Part::OfReported => h.reported = v != 0,
+        Part::OfReported => h.reported = Bit::from(v != 0),
         Part::OfLnLo => h.ln_lo = x,
         Part::OfLnHi => h.ln_hi = x,
         _ => h.serial = u64::from(v),
@@ -101,7 +102,8 @@ fn set_hypothesis(h: &mut Hypothesis, part: Part, v: u32) {
 
 /// A part set.
 pub fn set(b: &mut Bank, part: Part, i: u8, v: u32) {
-    let (x, on, n, i) = (f32::from_bits(v), v != 0, v as usize, usize::from(i));
+    let (x, on) = (f32::from_bits(v), Bit::from(v != 0));
+    let (n, i) = (v as usize, usize::from(i));
     match part {
         Part::Width => b.width = n,
         Part::Switching => b.switching = on,
@@ -131,6 +133,26 @@ pub fn set(b: &mut Bank, part: Part, i: u8, v: u32) {
     }
 }
 
+/// Every flag of a bank, those beyond its counts too.
+pub fn flags(b: &mut Bank) -> Vec<&mut Bit> {
+    let of_rivals = b.challengers.iter_mut().flat_map(|h| {
+        let mut all = tracker::flags(&mut h.tracker);
+        all.push(&mut h.reported);
+        all
+    });
+    [
+        &mut b.switching,
+        &mut b.has_side,
+        &mut b.streak_side,
+        &mut b.has_last_gap,
+        &mut b.has_pending,
+    ]
+    .into_iter()
+    .chain(of_rivals)
+    .chain(b.log.iter_mut().map(|r| &mut r.applied))
+    .collect()
+}
+
 fn bits(v: f32) -> u32 {
     if v.is_nan() {
         0x7FC0_0000
@@ -144,7 +166,7 @@ fn bank_parts(b: &Bank) -> Vec<Call> {
     let mut all = vec![Call::New(1, false)];
     let mut put = |part, i: usize, v: u32| all.push(Call::Set(part, i as u8, v));
     put(Part::Width, 0, b.width as u32);
-    put(Part::Switching, 0, u32::from(b.switching));
+    put(Part::Switching, 0, u32::from(b.switching.0));
     put(Part::Score, 0, bits(b.primary_score));
     put(Part::GapScore, 0, bits(b.primary_gap_score));
     put(Part::Challengers, 0, b.challengers_len as u32);
@@ -154,20 +176,20 @@ fn bank_parts(b: &Bank) -> Vec<Call> {
         put(Part::Streak, i, bits(b.streak[i]));
         put(Part::Gap, i, bits(b.streak_gaps[i]));
     }
-    put(Part::HasSide, 0, u32::from(b.has_side));
-    put(Part::Side, 0, u32::from(b.streak_side));
-    put(Part::HasLastGap, 0, u32::from(b.has_last_gap));
+    put(Part::HasSide, 0, u32::from(b.has_side.0));
+    put(Part::Side, 0, u32::from(b.streak_side.0));
+    put(Part::HasLastGap, 0, u32::from(b.has_last_gap.0));
     put(Part::LastGap, 0, bits(b.last_gap));
     put(Part::Marks, 0, low(b.marks_seen));
     put(Part::Gaps, 0, low(b.gaps_seen));
-    put(Part::HasPending, 0, u32::from(b.has_pending));
+    put(Part::HasPending, 0, u32::from(b.has_pending.0));
     put(Part::Pending, 0, b.pending as u32);
     put(Part::LogLen, 0, b.log_len as u32);
     for (i, r) in b.log.iter().enumerate() {
         put(Part::LogMark, i, low(r.mark_index));
         put(Part::LogFrom, i, bits(r.from_dit_ms));
         put(Part::LogTo, i, bits(r.to_dit_ms));
-        put(Part::LogApplied, i, u32::from(r.applied));
+        put(Part::LogApplied, i, u32::from(r.applied.0));
     }
     put(Part::Started, 0, low(b.started));
     put(Part::StartedHigh, 0, low(b.started >> 32));
@@ -183,7 +205,7 @@ fn hypothesis_parts(i: usize, h: &Hypothesis) -> Vec<Call> {
     put(Part::OfAge, h.age_marks);
     put(Part::OfOrigin, u32::from(h.origin));
     put(Part::OfRetain, h.retain_marks);
-    put(Part::OfReported, u32::from(h.reported));
+    put(Part::OfReported, u32::from(h.reported.0));
     put(Part::OfLnLo, bits(h.ln_lo));
     put(Part::OfLnHi, bits(h.ln_hi));
     put(Part::OfSerial, h.serial as u32);

@@ -2,6 +2,7 @@
 
 use super::Readings;
 use crate::hullathan::bank::{Bank, Hypothesis, Record};
+use crate::hullathan::Bit;
 use crate::layers::tracker;
 use crate::layers::tracker::{same_float, same_floats, same_option};
 use crate::manta::timing::bank::{Origin, SwitchRecord, TimingHypothesis};
@@ -25,7 +26,7 @@ fn hypothesis((place, h): (usize, &Hypothesis)) -> TimingHypothesis {
         lead_marks: h.lead_marks,
         age_marks: h.age_marks,
         origin: origin(h),
-        reported: h.reported,
+        reported: h.reported.is(),
         ln_lo: h.ln_lo,
         ln_hi: h.ln_hi,
         name: Some(place),
@@ -37,7 +38,7 @@ fn record(r: &Record) -> SwitchRecord {
         mark_index: r.mark_index,
         from_dit_ms: r.from_dit_ms,
         to_dit_ms: r.to_dit_ms,
-        applied: r.applied,
+        applied: r.applied.is(),
     }
 }
 
@@ -45,7 +46,7 @@ fn record(r: &Record) -> SwitchRecord {
 pub fn manta(b: &Bank) -> TimingBank {
     let mut m = TimingBank::new(SpeedBankConfig {
         width: b.width,
-        switching: b.switching,
+        switching: b.switching.is(),
     });
     m.primary_score = b.primary_score;
     m.primary_gap_score = b.primary_gap_score;
@@ -53,11 +54,11 @@ pub fn manta(b: &Bank) -> TimingBank {
     m.challengers = challengers.iter().enumerate().map(hypothesis).collect();
     m.streak = b.streak[..b.streak_len].to_vec();
     m.streak_gaps = b.streak_gaps[..b.streak_gaps_len].to_vec();
-    m.streak_side = b.has_side.then_some(b.streak_side);
-    m.last_gap = b.has_last_gap.then_some(b.last_gap);
+    m.streak_side = b.has_side.is().then_some(b.streak_side.is());
+    m.last_gap = b.has_last_gap.is().then_some(b.last_gap);
     m.marks_seen = b.marks_seen;
     m.gaps_seen = b.gaps_seen;
-    m.pending = b.has_pending.then_some(b.pending);
+    m.pending = b.has_pending.is().then_some(b.pending);
     m.log = b.log[..b.log_len].iter().map(record).collect();
     m
 }
@@ -75,14 +76,15 @@ fn same_hypothesis((h, m): (&Hypothesis, &TimingHypothesis)) -> bool {
     tracker::same(&h.tracker, &m.tracker)
         && same_float(h.score, m.score)
         && same_float(h.gap_score, m.gap_score)
-        && (h.lead_marks, h.age_marks, h.reported) == (m.lead_marks, m.age_marks, m.reported)
+        && (h.lead_marks, h.age_marks, h.reported)
+            == (m.lead_marks, m.age_marks, Bit::from(m.reported))
         && same_origin(h, m.origin)
         && same_float(h.ln_lo, m.ln_lo)
         && same_float(h.ln_hi, m.ln_hi)
 }
 
 fn same_record((r, m): (&Record, &SwitchRecord)) -> bool {
-    (r.mark_index, r.applied) == (m.mark_index, m.applied)
+    (r.mark_index, r.applied) == (m.mark_index, Bit::from(m.applied))
         && same_float(r.from_dit_ms, m.from_dit_ms)
         && same_float(r.to_dit_ms, m.to_dit_ms)
 }
@@ -90,7 +92,7 @@ fn same_record((r, m): (&Record, &SwitchRecord)) -> bool {
 /// Whether the library's bank is the Rust's, in every part that the Rust has.
 pub fn same(b: &Bank, m: &TimingBank) -> bool {
     fits(b)
-        && (b.width, b.switching) == (m.cfg.width, m.cfg.switching)
+        && (b.width, b.switching) == (m.cfg.width, Bit::from(m.cfg.switching))
         && same_float(b.primary_score, m.primary_score)
         && same_float(b.primary_gap_score, m.primary_gap_score)
         && b.challengers_len == m.challengers.len()
@@ -100,10 +102,13 @@ pub fn same(b: &Bank, m: &TimingBank) -> bool {
             .all(same_hypothesis)
         && same_floats(&b.streak[..b.streak_len], m.streak.iter())
         && same_floats(&b.streak_gaps[..b.streak_gaps_len], m.streak_gaps.iter())
-        && b.has_side.then_some(b.streak_side) == m.streak_side
+        && b.has_side == Bit::from(m.streak_side.is_some())
+        && m.streak_side
+            .is_none_or(|side| b.streak_side == Bit::from(side))
         && same_option(b.has_last_gap, b.last_gap, m.last_gap)
         && (b.marks_seen, b.gaps_seen) == (m.marks_seen, m.gaps_seen)
-        && b.has_pending.then_some(b.pending) == m.pending
+        && b.has_pending == Bit::from(m.pending.is_some())
+        && m.pending.is_none_or(|place| b.pending == place)
         && b.log_len == m.log.len()
         && b.log.iter().zip(&m.log).all(same_record)
 }
@@ -176,8 +181,8 @@ mod tests {
             .into_iter()
             .find(|b| b.challengers_len == 7 && b.log_len == 16 && b.streak_gaps_len > 1)
             .expect("one of them");
-        (b.has_side, b.has_pending, b.pending) = (true, true, 3);
-        (b.has_last_gap, b.last_gap) = (true, 60.0);
+        (b.has_side, b.has_pending, b.pending) = (Bit::YES, Bit::YES, 3);
+        (b.has_last_gap, b.last_gap) = (Bit::YES, 60.0);
         for h in &mut b.challengers {
             (h.origin, h.retain_marks) = (2, 9);
         }

@@ -5,6 +5,7 @@ use super::{Call, Event, CLEAR, FINISH, GAP, HINT, MARK, SEED, SWITCH};
 use crate::hullathan::bank::Bank;
 use crate::hullathan::station::Station;
 use crate::hullathan::tracker::SpeedTracker as Plain;
+use crate::hullathan::Bit;
 use crate::keying::{Sender, Style};
 use crate::layers::bank;
 use crate::layers::tracker;
@@ -295,7 +296,7 @@ fn damage(random: &mut Random, s: &mut Station) {
     let place = random.below(n.max(1) as u64) as usize;
     let (a, b) = (random.below(5) as usize, random.below(5) as usize);
     let started = s.bank.started;
-    match random.below(12) {
+    match random.below(18) {
         0 => s.serial = started + 1,
         1 => s.bank.challengers[place].serial = started + 1,
         2 => s.bank.challengers[place].serial = s.serial,
@@ -314,8 +315,24 @@ fn damage(random: &mut Random, s: &mut Station) {
             s.counts[a] += u64::MAX - started;
         }
         10 => bank::cases::limit(random, &mut s.bank),
+        11..=16 => unflag(random, s),
         _ => tracker::cases::limit(random, &mut s.primary),
     }
+}
+
+/// A number that no flag has, in a part of the station or beyond a count.
+fn unflag(random: &mut Random, s: &mut Station) {
+    let b = &mut s.bank;
+    let of_ring = s.primary.ring.iter_mut().map(|e| &mut e.assigned_dit);
+    let flags = match random.below(6) {
+        0 => of_ring.collect(),
+        1 => tracker::flags(&mut s.primary),
+        2 => bank::flags(b),
+        3 => vec![&mut b.switching, &mut b.has_side, &mut b.has_last_gap],
+        4 => b.challengers.iter_mut().map(|h| &mut h.reported).collect(),
+        _ => b.log.iter_mut().map(|r| &mut r.applied).collect(),
+    };
+    bank::cases::no_flag(random, flags);
 }
 
 /// A station with one part that may not be sound, and every kind of call.
@@ -325,7 +342,7 @@ fn damaged(random: &mut Random) -> Vec<Call> {
     let mut s = stationed(random, b, p);
     match random.below(8) {
         0 => {
-            s.bank.has_pending = s.bank.challengers_len > 0;
+            s.bank.has_pending = Bit::from(s.bank.challengers_len > 0);
             s.bank.pending = 0;
         }
         _ => damage(random, &mut s),

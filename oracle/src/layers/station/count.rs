@@ -3,6 +3,7 @@
 use super::{Answer, Call, Event, CLEAR, FINISH, GAP, HINT, MARK, SEED, SWITCH};
 use crate::hullathan::bank::{Bank, Hypothesis};
 use crate::hullathan::station::Station;
+use crate::hullathan::Bit;
 use crate::layers::bank::follow::{AGED, CLEARED, OUTSCORED, REPLACED, TWIN};
 use crate::refusals;
 
@@ -71,11 +72,23 @@ pub mod reached {
         LAST_CALL: "accepted: the last call that is counted",
         STARTED_ALL: "sound: as many started as calls accepted",
         BEYOND: "sound: a serial beyond the count that is held",
-        UNKNOWN: "refused by 255: no event has the kind",
-        UNKNOWN_FIRST: "refused by 255 where 1 would refuse too",
+        FLAG_BEYOND: "sound: a flag beyond a count that is neither 0 nor 1",
+        FLAG_RING: "sound: a flag beyond the primary's ring that is neither 0 nor 1",
+        BATCH_ONE: "batch: of one event",
+        BATCH_64: "batch: of 64 events",
+        BATCH_REFUSED: "batch: an event is refused, and the next goes on",
+        BATCH_UNSOUND: "batch: refused by 1, the station is unsound",
+        BATCH_MANY: "batch: refused by 1, more than 64 events",
+        UNKNOWN: "refused by 12: no event has the kind",
+        UNKNOWN_ONE: "refused by 1 where 12 would refuse too",
+        UNKNOWN_TWO: "refused by 2 where 12 would refuse too",
         ONE_PRIMARY: "refused by 1: the primary",
         ONE_BANK: "refused by 1: the bank",
         ONE_FORM: "refused by 1: an origin's number above 2",
+        ONE_FLAG_PRIMARY: "refused by 1: a flag of the primary that is neither 0 nor 1",
+        ONE_FLAG_BANK: "refused by 1: a flag of the bank that is neither 0 nor 1",
+        ONE_FLAG_RIVAL: "refused by 1: a flag of a challenger that is neither 0 nor 1",
+        ONE_FLAG_LOG: "refused by 1: a flag of a switch record that is neither 0 nor 1",
         ONE_ABOVE: "refused by 1: the primary's serial just above started",
         ONE_RIVAL_ABOVE: "refused by 1: a challenger's serial just above started",
         ONE_TWICE: "refused by 1: a challenger has the primary's serial",
@@ -143,22 +156,22 @@ fn accepted(before: &Station, after: &Station, e: &Event, code: u8) {
             FINISH_YES.when(code == 1);
             FINISH_RIVAL.when(code == 1 && new);
             FINISH_FEW.when(code == 3 && !before.primary.pair.ready);
-            FINISH_READY.when(code == 3 && before.primary.pair.ready);
+            FINISH_READY.when(code == 3 && before.primary.pair.ready.is());
         }
         SEED => {
             SEED_UNREADY.when(code == 1);
             SEED_READY.when(code == 0);
             SEED_CLEARS.when(before.bank.challengers_len > 0);
-            SEED_PENDING.when(before.bank.has_pending);
+            SEED_PENDING.when(before.bank.has_pending.is());
         }
         HINT => {
-            HINT_KEPT.when(after.primary.has_hint);
-            HINT_EMPTY.when(before.primary.has_hint && !after.primary.has_hint);
+            HINT_KEPT.when(after.primary.has_hint.is());
+            HINT_EMPTY.when(before.primary.has_hint.is() && !after.primary.has_hint);
         }
         CLEAR => {
             CLEAR_SOME.when(before.bank.challengers_len > 0);
             CLEAR_NONE.when(before.bank.challengers_len == 0);
-            CLEAR_PENDING.when(before.bank.has_pending);
+            CLEAR_PENDING.when(before.bank.has_pending.is());
         }
         _ => switch(before, code),
     }
@@ -169,9 +182,9 @@ fn mark(before: &Station, e: &Event, code: u8, new: bool) {
     MARK_START.when(e.live && !ready && code == 0);
     MARK_LOCK.when(code == 1);
     MARK_LOCK_RIVAL.when(code == 1 && new);
-    MARK_LIVE.when(e.live && ready);
-    MARK_STARTS.when(e.live && ready && new);
-    MARK_SILENT.when(!e.live && ready);
+    MARK_LIVE.when(e.live && ready.is());
+    MARK_STARTS.when(e.live && ready.is() && new);
+    MARK_SILENT.when(!e.live && ready.is());
     MARK_SILENT_UNREADY.when(!e.live && !ready);
     MARK_OFF.when(before.bank.width == 1);
 }
@@ -186,13 +199,13 @@ fn gap(before: &Station, after: &Station, e: &Event) {
     GAP_ELEMENT.when(e.number() < twice);
     GAP_LONG.when(e.number() > twice);
     GAP_TWO.when(e.number() == twice);
-    GAP_OFF.when(before.bank.width == 1 && after.primary.has_egap && e.number() < twice);
+    GAP_OFF.when(before.bank.width == 1 && after.primary.has_egap.is() && e.number() < twice);
 }
 
 /// The challenger that a switch may move.
 fn pending(s: &Station) -> Option<&Hypothesis> {
     let b = &s.bank;
-    (b.width > 1 && b.has_pending).then(|| &b.challengers[b.pending])
+    (b.width > 1 && b.has_pending.is()).then(|| &b.challengers[b.pending])
 }
 
 fn switch(before: &Station, code: u8) {
@@ -204,7 +217,7 @@ fn switch(before: &Station, code: u8) {
     if let Some(h) = pending(before) {
         SWITCHED_BACK.when(code == 2 && h.origin == 2);
         SWITCH_OBSERVED.when(code == 3 && !before.bank.switching && !h.reported);
-        SWITCH_AGAIN.when(code == 3 && h.reported);
+        SWITCH_AGAIN.when(code == 3 && h.reported.is());
     }
 }
 
@@ -248,7 +261,7 @@ fn watched(before: &Station, after: &Station, e: &Event, answer: &Answer) {
         WATCH_OBSERVED.when(answer.code == 3 && !h.reported);
     }
     let (p, q) = (&before.primary, &after.primary);
-    let recovers = !p.badlock_recovered && q.badlock_recovered;
+    let recovers = !p.badlock_recovered && q.badlock_recovered.is();
     WATCH_DRIFT.when(e.kind == MARK && p.regime != q.regime && !recovers);
     WATCH_FRAGMENT.when(e.kind == MARK && recovers);
     WATCH_FULL.when(after.bank.challengers_len == 7);
@@ -262,12 +275,22 @@ fn books(s: &Station, e: &Event) {
     STARTED_ALL.when(s.bank.started == s.accepted && s.bank.started > 0);
     let beyond = &s.bank.challengers[s.bank.challengers_len..];
     BEYOND.when(beyond.iter().any(|h| h.serial == s.serial) && s.serial > 0);
-    ONE_NO_SWITCH.when(s.bank.has_pending && !s.primary.pair.ready && e.kind != SWITCH);
+    let none = |b: Bit| !b.is_flag();
+    FLAG_BEYOND.when(
+        beyond.iter().any(|h| none(h.reported))
+            || s.bank.log[s.bank.log_len..].iter().any(|r| none(r.applied)),
+    );
+    let ring = &s.primary.ring[s.primary.ring_len..];
+    FLAG_RING.when(ring.iter().any(|e| none(e.assigned_dit)));
+    ONE_NO_SWITCH.when(s.bank.has_pending.is() && !s.primary.pair.ready && e.kind != SWITCH);
 }
 
 fn refused(s: &Station, e: &Event, code: u8) {
     match code {
-        1 => unsound(s),
+        1 => {
+            UNKNOWN_ONE.when(e.kind > SWITCH);
+            unsound(s);
+        }
         2 => {
             TWO_MARKS.when(s.bank.marks_seen == LAST);
             TWO_GAPS.when(s.bank.gaps_seen == LAST);
@@ -279,11 +302,9 @@ fn refused(s: &Station, e: &Event, code: u8) {
                 _ => false,
             };
             TWO_FIRST.when(bad);
+            UNKNOWN_TWO.when(e.kind > SWITCH);
         }
-        255 => {
-            UNKNOWN.reached();
-            UNKNOWN_FIRST.when(refusals::station(s).is_err());
-        }
+        12 => UNKNOWN.reached(),
         _ => {
             let all = match e.kind {
                 MARK => [&FIVE_MARK, &SIX_MARK, &SEVEN_MARK],
@@ -305,6 +326,13 @@ fn unsound(s: &Station) {
     ONE_PRIMARY.when(parts.0.is_err() && parts.1.is_ok());
     ONE_BANK.when(parts.0.is_ok() && parts.1.is_err());
     ONE_FORM.when(held(&s.bank).iter().any(|h| h.origin > 2));
+    let none = |b: Bit| !b.is_flag();
+    let p = &s.primary;
+    ONE_FLAG_PRIMARY.when(none(p.pair.confirmed) || none(p.lo_uncorroborated));
+    ONE_FLAG_BANK.when(none(s.bank.switching) || none(s.bank.has_last_gap));
+    ONE_FLAG_RIVAL.when(held(&s.bank).iter().any(|h| none(h.reported)));
+    let log = s.bank.log.iter().take(s.bank.log_len);
+    ONE_FLAG_LOG.when(log.into_iter().any(|r| none(r.applied)));
     if parts != (Ok(()), Ok(())) {
         return;
     }

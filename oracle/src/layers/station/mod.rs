@@ -1,6 +1,7 @@
 //! The station, beside manta's `SpeedTracker` and `TimingBank` driven by document 01's "Station", with its refusals before them, and
 //! serials, departures and counts followed beside them.
 
+mod batch;
 mod cases;
 mod count;
 pub(crate) mod drive;
@@ -8,13 +9,15 @@ pub(crate) mod drive;
 use crate::compare::{agree, Difference, Layer};
 use crate::hullathan::bank::{Bank, Departure};
 use crate::hullathan::station as ours;
-use crate::hullathan::station::Station;
+use crate::hullathan::station::{Reading, Rival, Station};
+use crate::hullathan::Bit;
 use crate::layers::bank::{follow, state};
 use crate::layers::tracker;
 use crate::random::Random;
 use crate::refusals;
 use crate::shrink::{simpler_f32, smaller_list};
 use crate::states::{self, State};
+use batch::Batches;
 use drive::{Driven, Heard};
 use std::fmt;
 
@@ -41,6 +44,16 @@ pub struct Event {
 impl Event {
     pub fn number(&self) -> f32 {
         f32::from_bits(self.value)
+    }
+
+    /// As C has it: of a live one, any byte but 0.
+    fn plain(&self) -> ours::Event {
+        let other = 1 + (self.value % 255) as u8;
+        ours::Event {
+            kind: self.kind,
+            live: if self.live { other } else { 0 },
+            value: self.number(),
+        }
     }
 }
 
@@ -92,19 +105,17 @@ impl Answer {
     }
 }
 
-/// The refusals of a call, in order; 255 where no event has the kind.
+/// The refusals of a call, in order; 12 where no event has the kind.
 fn refusal(s: &Station, e: &Event) -> Result<(), u8> {
-    if e.kind > SWITCH {
-        return Err(255);
-    }
     refusals::station(s)?;
-    if e.kind == SWITCH && s.bank.has_pending && !s.primary.pair.ready {
+    if e.kind == SWITCH && s.bank.has_pending.is() && !s.primary.pair.ready {
         return Err(1);
     }
     refusals::calls(s)?;
     match e.kind {
         MARK | GAP => refusals::duration(e.number()),
         SEED => refusals::speed(e.number()),
+        k if k > SWITCH => Err(12),
         _ => Ok(()),
     }
 }
@@ -174,6 +185,51 @@ impl Rust {
     }
 }
 
+/// What a host is shown of a station; of an unsound one a refusal by 1, and zeros.
+fn reading(rust: Option<&Rust>) -> Reading {
+    let Some(m) = rust else {
+        return Reading {
+            code: 129,
+            ..Reading::default()
+        };
+    };
+    let (p, b) = (&m.driven.primary, &m.driven.bank);
+    let mut rivals = [Rival::default(); 8];
+    for (place, (h, &serial)) in rivals
+        .iter_mut()
+        .zip(b.challengers().iter().zip(&m.serials))
+    {
+        *place = Rival {
+            serial,
+            dit_ms: h.tracker().mu_dit_ms(),
+            dah_ms: h.tracker().mu_dah_ms(),
+            score: h.score,
+            gap_score: h.gap_score,
+        };
+    }
+    Reading {
+        code: 0,
+        ready: Bit::from(p.ready()),
+        has_wpm: Bit::from(p.wpm().is_some()),
+        switching: Bit::from(b.cfg.switching),
+        width: b.cfg.width,
+        dit_ms: p.mu_dit_ms(),
+        dah_ms: p.mu_dah_ms(),
+        dit_estimate_ms: p.dit_estimate_ms(),
+        wpm: p.wpm().unwrap_or(0.0),
+        score: b.primary_score,
+        gap_score: b.primary_gap_score,
+        serial: m.serial,
+        accepted: m.accepted,
+        marks: b.marks_seen(),
+        gaps: b.gaps_seen(),
+        started: m.started,
+        counts: m.counts,
+        challengers: b.challengers().len(),
+        rivals,
+    }
+}
+
 /// Whether two are the same bit for bit.
 fn identical(a: &Station, b: &Station) -> bool {
     tracker::identical(&a.primary, &b.primary)
@@ -188,78 +244,128 @@ pub struct Both {
     rust: Option<Rust>,
     /// Whether no station was handed in since the fresh one.
     pub watch: bool,
+    batches: Batches,
 }
 
 impl Both {
     pub fn new() -> Both {
+        let first = ours::fresh(1, false);
         Both {
-            ours: ours::fresh(1, false).station,
+            ours: first,
             rust: Some(Rust::fresh(1, false)),
             watch: true,
+            batches: Batches::new(first),
         }
     }
 
-    /// One call to both sides: the answers, and both whole stations afterwards; after a refusal each bit of what was handed in.
+    /// One call to both sides: the answers, and both whole stations afterwards; after a refusal each bit of what was lent. Then what a
+    /// host reads of it, and once a batch is full the same calls as a batch.
     pub fn step(&mut self, call: &Call) -> Result<Answer, Difference> {
-        match call {
-            Call::Fresh(width, switching) => self.fresh(*width, *switching, call),
-            Call::Event(e) => self.event(e, call),
+        let answer = match call {
+            Call::Event(e) => self.event(e, call)?,
+            Call::Fresh(width, switching) => {
+                self.flush(call)?;
+                self.fresh(*width, *switching, call)?
+            }
             Call::Hand(s) => {
+                self.flush(call)?;
                 self.ours = **s;
                 self.rust = refusals::station(s).is_ok().then(|| Rust::hand(s));
                 self.watch = false;
-                Ok(Answer::refused(0))
+                self.batches.station = self.ours;
+                Answer::refused(0)
             }
+        };
+        self.read(call)?;
+        Ok(answer)
+    }
+
+    /// Runs the events that wait for their batch to be full: the station after it is the Rust's.
+    pub fn flush(&mut self, call: &Call) -> Result<(), Difference> {
+        if self.batches.is_empty() {
+            return Ok(());
         }
+        self.batches.run(call, self.rust.is_some())?;
+        if self.rust.is_some() {
+            self.compare(&self.batches.station, call)?;
+        }
+        Ok(())
+    }
+
+    fn read(&self, call: &Call) -> Result<(), Difference> {
+        let (r, m) = (ours::read(&self.ours), reading(self.rust.as_ref()));
+        agree(call, "the reading", r, m)
     }
 
     fn fresh(&mut self, width: usize, switching: bool, call: &Call) -> Result<Answer, Difference> {
-        let back = ours::fresh(width, switching);
+        let any = if switching { 1 + width as u8 } else { 0 };
+        let code = ours::start(&mut self.ours, width, any);
         let expected = refusals::width(width);
-        agree(call, "the code", back.code, expected.err().unwrap_or(0))?;
+        let number = expected.err().unwrap_or(0);
+        let full = if number > 0 { 128 + number } else { 0 };
+        agree(call, "the code", code, full)?;
         self.rust = Some(match expected {
             Ok(()) => Rust::fresh(width, switching),
             Err(_) => Rust::fresh(1, false),
         });
-        self.ours = back.station;
         self.watch = true;
-        self.compare(call)?;
+        self.batches.station = self.ours;
+        self.compare(&self.ours, call)?;
         Ok(Answer {
-            refused: back.code != 0,
-            code: back.code,
+            refused: number > 0,
+            code: number,
             left: Vec::new(),
         })
     }
 
     fn event(&mut self, e: &Event, call: &Call) -> Result<Answer, Difference> {
-        let before = self.ours;
-        let back = ours::call(before, e.kind, e.number(), e.live);
+        let (before, plain) = (self.ours, e.plain());
+        let back = ours::call(&mut self.ours, e.kind, plain.live, plain.value);
         let answer = Answer {
-            refused: back.refused,
-            code: back.code,
+            refused: back.code >= 128,
+            code: back.code % 128,
             left: back.left[..back.left_len.min(9)].to_vec(),
         };
-        if let Err(code) = refusal(&before, e) {
-            agree(call, "the answer", &answer, &Answer::refused(code))?;
-            let kept = identical(&before, &back.station);
-            agree(call, "refused: all is handed back as it was", kept, true)?;
-            return Ok(answer);
-        }
-        let rust = self.rust.as_mut().expect("a sound station");
-        let expected = rust.call(&before.bank, e);
+        let beyond = &back.left[answer.left.len()..];
+        let zeros = beyond.iter().all(|d| *d == Departure::default());
+        agree(call, "zeros beyond those that left", zeros, true)?;
+        let expected = match (refusal(&before, e), &mut self.rust) {
+            (Err(code), _) => {
+                let kept = identical(&before, &self.ours);
+                agree(call, "refused: the station stays as it was", kept, true)?;
+                Answer::refused(code)
+            }
+            (Ok(()), rust) => rust
+                .as_mut()
+                .expect("a sound station")
+                .call(&before.bank, e),
+        };
         agree(
             call,
             "the answer",
-            answer.clone().sorted(),
+            answer.sorted(),
             expected.clone().sorted(),
         )?;
-        self.ours = back.station;
-        self.compare(call)?;
+        let now = reading(self.rust.as_ref());
+        let shown = ours::Answer {
+            dit_ms: now.dit_ms,
+            dah_ms: now.dah_ms,
+            serial: now.serial,
+            challengers: now.challengers,
+            ..back
+        };
+        agree(call, "the answer's numbers", back, shown)?;
+        if !expected.refused {
+            self.compare(&self.ours, call)?;
+        }
+        if self.batches.push(plain, back) {
+            self.flush(call)?;
+        }
         Ok(expected)
     }
 
-    fn compare(&self, call: &Call) -> Result<(), Difference> {
-        let (s, m) = (&self.ours, self.rust.as_ref().expect("a sound station"));
+    fn compare(&self, s: &Station, call: &Call) -> Result<(), Difference> {
+        let m = self.rust.as_ref().expect("a sound station");
         let serials = refusals::serials(s);
         agree(call, "the primary's serial", serials[0], m.serial)?;
         agree(call, "the serials", &serials[1..], &m.serials)?;
@@ -308,6 +414,9 @@ impl Layer for Stations {
             let answer = both.step(call)?;
             count::count(&before, &both.ours, both.watch, call, &answer);
             calls += u64::from(!matches!(call, Call::Hand(_)));
+        }
+        if let Some(last) = case.last() {
+            both.flush(last)?;
         }
         Ok(calls)
     }

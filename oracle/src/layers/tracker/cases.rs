@@ -2,6 +2,7 @@
 
 use super::{manta, set, Call, Handed, Part};
 use crate::hullathan::tracker::{RingEntry, SpeedTracker as Plain};
+use crate::hullathan::Bit;
 use crate::keying::{Sender, Style};
 use crate::manta::timing::SpeedTracker;
 use crate::patterns::near32;
@@ -247,12 +248,12 @@ fn positive(random: &mut Random, low: f64, high: f64) -> f32 {
 pub fn sound(random: &mut Random) -> Plain {
     let mut t = Plain::default();
     let flags = random.bits();
-    let flag = |i: u32| flags >> i & 1 == 1;
-    t.pair.ready = random.below(5) > 0;
-    if t.pair.ready {
+    let flag = |i: u32| Bit::from(flags >> i & 1 == 1);
+    t.pair.ready = Bit::from(random.below(5) > 0);
+    if t.pair.ready.is() {
         (t.pair.lo, t.pair.hi) = centroids(random);
     }
-    t.pair.init_len = random.below(if t.pair.ready { 13 } else { 5 }) as usize;
+    t.pair.init_len = random.below(if t.pair.ready.is() { 13 } else { 5 }) as usize;
     t.ring_len = random.pick(&[0, 3, 11, 11, 12, 12]);
     t.recent_len = random.below(6) as usize;
     let junk = f32::from_bits(random.pick(&ODD));
@@ -271,7 +272,10 @@ pub fn sound(random: &mut Random) -> Plain {
         if i < t.ring_len {
             (t.ring[i].pre_lo, t.ring[i].pre_hi) = centroids(random);
             t.ring[i].dur_ms = good(random);
-            t.ring[i].assigned_dit = flag(10) ^ (random.below(16) == 0);
+            t.ring[i].assigned_dit = match random.below(16) {
+                0 => Bit::from(!flag(10)),
+                _ => flag(10),
+            };
         }
     }
     for i in 0..5 {
@@ -281,17 +285,17 @@ pub fn sound(random: &mut Random) -> Plain {
     t.pair.placeholder_is_lo = flag(1);
     t.pair.lo_n = random.pick(&[0, 1, 2, 12, u32::MAX as usize]);
     (t.has_wpm, t.has_egap, t.has_hint) = (flag(2), flag(3), flag(4));
-    t.wpm_ema = if t.has_wpm {
+    t.wpm_ema = if t.has_wpm.is() {
         positive(random, 8.0, 60.0)
     } else {
         junk
     };
-    t.mu_egap_ms = if t.has_egap {
+    t.mu_egap_ms = if t.has_egap.is() {
         positive(random, 5.0, 400.0)
     } else {
         junk
     };
-    t.ratio_hint = match (t.has_hint, random.below(3)) {
+    t.ratio_hint = match (t.has_hint.is(), random.below(3)) {
         (false, _) => junk,
         (true, 0) => random.pick(&[2.2, 6.0]),
         (true, _) => (random.scale(2.2, 6.0) as f32).clamp(2.2, 6.0),
@@ -308,7 +312,7 @@ fn primed(random: &mut Random) -> Vec<Call> {
         random.scale(20.0, 150.0) as f32,
         random.scale(2.2, 6.0) as f32,
     );
-    (t.pair.lo, t.pair.hi, t.pair.ready) = (lo, (lo * hi).min(900.0), true);
+    (t.pair.lo, t.pair.hi, t.pair.ready) = (lo, (lo * hi).min(900.0), Bit::YES);
     let dit = random.below(2) == 0;
     let boundary = (t.pair.lo * t.pair.hi).sqrt();
     let middle = match dit {
@@ -327,7 +331,7 @@ fn primed(random: &mut Random) -> Vec<Call> {
     t.ring_len = 11;
     for e in &mut t.ring[..11] {
         (e.pre_lo, e.pre_hi) = pre;
-        e.assigned_dit = dit;
+        e.assigned_dit = Bit::from(dit);
         e.dur_ms = mark(random);
     }
     t.ring[11].pre_lo = f32::NAN;
@@ -336,7 +340,7 @@ fn primed(random: &mut Random) -> Vec<Call> {
         *r = mark(random);
     }
     if random.below(2) == 0 {
-        t.has_egap = true;
+        t.has_egap = Bit::YES;
         t.mu_egap_ms = middle * random.scale(0.2, 1.5) as f32;
     }
     let mut calls = vec![Call::Hand(Box::new(Handed(t)))];
@@ -373,9 +377,9 @@ pub fn limit(random: &mut Random, t: &mut Plain) {
         _ => about(random, limits),
     };
     match random.below(12) {
-        0 if t.pair.ready => set(t, Part::Lo, 0, odd(random, &[20.0, 150.0])),
+        0 if t.pair.ready.is() => set(t, Part::Lo, 0, odd(random, &[20.0, 150.0])),
         0 => set(t, Part::Lo, 0, random.pick(&[MINUS, 1, MINUS | 1, NAN])),
-        1 if t.pair.ready => set(t, Part::Hi, 0, odd(random, &[16.0, 2_500.0])),
+        1 if t.pair.ready.is() => set(t, Part::Hi, 0, odd(random, &[16.0, 2_500.0])),
         1 => set(t, Part::Hi, 0, random.pick(&[MINUS, 1, MINUS | 1, NAN])),
         2 => set(t, Part::InitLen, 0, random.pick(&[4, 5, 12, 13, u32::MAX])),
         3 => set(t, Part::RingLen, 0, random.pick(&[11, 12, 13, u32::MAX])),
@@ -387,7 +391,7 @@ pub fn limit(random: &mut Random, t: &mut Plain) {
             set(t, part, i, odd(random, &duration));
         }
         8 => {
-            t.has_wpm = true;
+            t.has_wpm = Bit::YES;
             set(
                 t,
                 Part::Wpm,
@@ -396,7 +400,7 @@ pub fn limit(random: &mut Random, t: &mut Plain) {
             );
         }
         9 => {
-            t.has_egap = true;
+            t.has_egap = Bit::YES;
             set(
                 t,
                 Part::Egap,
@@ -405,10 +409,10 @@ pub fn limit(random: &mut Random, t: &mut Plain) {
             );
         }
         10 => {
-            t.has_hint = true;
+            t.has_hint = Bit::YES;
             set(t, Part::Hint, 0, odd(random, &[2.2, 6.0]));
         }
-        _ => t.pair.ready = !t.pair.ready,
+        _ => t.pair.ready = Bit::from(!t.pair.ready),
     }
 }
 

@@ -2,6 +2,7 @@
 
 use super::{Answer, Call, Told};
 use crate::hullathan::tracker::{RingEntry, SpeedTracker as Plain};
+use crate::hullathan::Bit;
 use crate::refusals;
 
 pub mod reached {
@@ -204,12 +205,12 @@ impl Watch {
             Call::Gap(d) => {
                 limits(*d);
                 GAP_FIRST.when(!before.has_egap);
-                GAP_LATER.when(before.has_egap);
+                GAP_LATER.when(before.has_egap.is());
             }
             Call::Seed(w) => {
                 let dit = 1200.0 / f32::from_bits(*w);
                 SEED_UNREADY.when(!before.pair.ready);
-                SEED_READY.when(before.pair.ready);
+                SEED_READY.when(before.pair.ready.is());
                 SEED_UP.when(dit < 20.0);
                 SEED_DOWN.when(dit > 150.0);
                 SEED_INFINITE.when(dit.is_infinite());
@@ -230,7 +231,7 @@ impl Watch {
                 TAKE_NO.when(!yes);
             }
             Call::Reseed => {
-                RESEED.when(before.pair.ready);
+                RESEED.when(before.pair.ready.is());
                 RESEED_UNREADY.when(!before.pair.ready);
             }
             Call::Resolve(gaps) => resolve(before, gaps, yes),
@@ -245,13 +246,13 @@ impl Watch {
             FINISH_2.when(n == 2);
             FINISH_3.when(n == 3);
             FINISH_4.when(n == 4);
-            FINISH_CUT.when(after.pair.confirmed);
+            FINISH_CUT.when(after.pair.confirmed.is());
             FINISH_DITS.when(!after.pair.confirmed && !after.pair.placeholder_is_lo);
-            FINISH_DAHS.when(!after.pair.confirmed && after.pair.placeholder_is_lo);
+            FINISH_DAHS.when(!after.pair.confirmed && after.pair.placeholder_is_lo.is());
             self.lone_finish = after.pair.lo_n == 1;
             self.dit_since = false;
         } else {
-            FINISH_READY.when(before.pair.ready);
+            FINISH_READY.when(before.pair.ready.is());
             FINISH_NONE.when(!before.pair.ready && n == 0);
             FINISH_1.when(!before.pair.ready && n == 1);
         }
@@ -261,13 +262,13 @@ impl Watch {
         let p = &before.pair;
         if !p.ready {
             START_KEPT.when(!after.pair.ready);
-            if after.pair.ready {
+            if after.pair.ready.is() {
                 lock(before, after, d);
             }
             return;
         }
         WPM_FIRST.when(!before.has_wpm);
-        WPM_MOVES.when(before.has_wpm);
+        WPM_MOVES.when(before.has_wpm.is());
         let (lo, hi) = learned(before, d);
         constrained(before, lo, hi);
         let lo = lo.clamp(20.0, 150.0);
@@ -275,20 +276,20 @@ impl Watch {
         let hi = if (2.2..=6.0).contains(&ratio) {
             hi
         } else {
-            lo * if before.has_hint {
+            lo * if before.has_hint.is() {
                 before.ratio_hint
             } else {
                 3.0
             }
         };
         let is_dit = d < (lo * hi).sqrt();
-        CLASS_TURNS.when(is_dit != (d < (p.lo * p.hi).sqrt()) && p.confirmed);
-        CORROBORATED.when(is_dit && before.lo_uncorroborated);
+        CLASS_TURNS.when(is_dit != (d < (p.lo * p.hi).sqrt()) && p.confirmed.is());
+        CORROBORATED.when(is_dit && before.lo_uncorroborated.is());
         self.dit_since |= is_dit;
         let mut ring = before.ring[..before.ring_len].to_vec();
         ring.push(RingEntry {
             dur_ms: d,
-            assigned_dit: is_dit,
+            assigned_dit: Bit::from(is_dit),
             pre_lo: p.lo,
             pre_hi: p.hi,
         });
@@ -306,7 +307,7 @@ impl Watch {
         if ring.len() < 12 {
             return;
         }
-        if ring.iter().any(|e| e.assigned_dit != is_dit) {
+        if ring.iter().any(|e| e.assigned_dit != Bit::from(is_dit)) {
             RING_MIXED.reached();
             return;
         }
@@ -322,7 +323,7 @@ impl Watch {
         if !spread && !near {
             DRIFT_DITS.when(is_dit);
             DRIFT_DAHS.when(!is_dit);
-            DRIFT_CUT.when(after.pair.confirmed);
+            DRIFT_CUT.when(after.pair.confirmed.is());
             DRIFT_WHOLE.when(!after.pair.confirmed);
             return;
         }
@@ -335,10 +336,10 @@ impl Watch {
         }
         if after.regime != before.regime {
             FRAGMENT_NO_GAP.when(!before.has_egap);
-            FRAGMENT_GAP.when(before.has_egap);
+            FRAGMENT_GAP.when(before.has_egap.is());
             FRAGMENT_LONE.when(before.pair.lo_n == 1);
             FRAGMENT_SEED.when(before.pair.lo_n == 0);
-        } else if before.lo_uncorroborated {
+        } else if before.lo_uncorroborated.is() {
             NO_FRAGMENT_GAP.reached();
         } else {
             NO_FRAGMENT_FINISH.when(self.lone_finish && !self.dit_since);
@@ -354,17 +355,17 @@ fn lock(before: &Plain, after: &Plain, d: f32) {
     marks.push(d);
     marks.sort_by(f32::total_cmp);
     LOCK_5.when(marks.len() == 5);
-    LOCK_CUT.when(after.pair.confirmed);
+    LOCK_CUT.when(after.pair.confirmed.is());
     LOCK_CUT_AT_TWO.when(marks[marks.len() - 1] / marks[0] == 2.0);
     LOCK_LONE.when(after.pair.lo_n == 1);
     LOCK_DITS.when(!after.pair.confirmed && !after.pair.placeholder_is_lo);
-    LOCK_DAHS.when(!after.pair.confirmed && after.pair.placeholder_is_lo);
+    LOCK_DAHS.when(!after.pair.confirmed && after.pair.placeholder_is_lo.is());
 }
 
 /// Both centroids as the mark moves them.
 fn learned(before: &Plain, d: f32) -> (f32, f32) {
     let p = &before.pair;
-    if !p.confirmed && p.placeholder_is_lo && d <= 0.5 * p.hi {
+    if !p.confirmed && p.placeholder_is_lo.is() && d <= 0.5 * p.hi {
         ANCHOR_DIT.reached();
         ANCHOR_DIT_EQUAL.when(d == 0.5 * p.hi);
         return (d, p.hi);
@@ -391,7 +392,7 @@ fn constrained(before: &Plain, lo: f32, hi: f32) {
     let ratio = hi / lo.clamp(20.0, 150.0);
     RATIO_LOW.when(ratio < 2.2);
     RATIO_HIGH.when(ratio > 6.0);
-    HINT_USED.when(before.has_hint && !(2.2..=6.0).contains(&ratio));
+    HINT_USED.when(before.has_hint.is() && !(2.2..=6.0).contains(&ratio));
 }
 
 fn resolve(before: &Plain, gaps: &[u32], yes: bool) {
@@ -403,9 +404,9 @@ fn resolve(before: &Plain, gaps: &[u32], yes: bool) {
         .filter(|&&g| g.is_finite() && g >= low && g < high)
         .count();
     RESOLVE_UNREADY.when(!p.ready);
-    RESOLVE_CONFIRMED.when(p.ready && p.confirmed);
-    RESOLVE_DAHS.when(p.ready && !p.confirmed && p.placeholder_is_lo);
-    if !p.ready || p.confirmed || p.placeholder_is_lo {
+    RESOLVE_CONFIRMED.when(p.ready.is() && p.confirmed.is());
+    RESOLVE_DAHS.when(p.ready.is() && !p.confirmed && p.placeholder_is_lo.is());
+    if !p.ready || p.confirmed.is() || p.placeholder_is_lo.is() {
         return;
     }
     RESOLVE_SHORT.when(p.lo < 60.0);
@@ -426,9 +427,9 @@ fn resolve(before: &Plain, gaps: &[u32], yes: bool) {
 
 fn read(t: &Plain) {
     READ_UNREADY.when(!t.pair.ready);
-    READ_WPM.when(t.has_wpm);
+    READ_WPM.when(t.has_wpm.is());
     ESTIMATE_PLAIN.when(!t.has_egap);
-    if t.has_egap && t.pair.ready {
+    if t.has_egap.is() && t.pair.ready.is() {
         let (lo, cap) = (t.pair.lo, 0.35 * t.pair.lo);
         let half = 0.5 * (lo - t.mu_egap_ms);
         ESTIMATE_GAP.when(half.abs() < cap);
@@ -483,7 +484,7 @@ fn unsound(t: &Plain, call: &Call) {
     if p.init_len > 12 || t.ring_len > 12 || t.recent_len > 5 {
         return;
     }
-    if p.ready {
+    if p.ready.is() {
         DIT_BELOW.when(p.lo == last(20.0));
         DIT_ABOVE.when(p.lo == next(150.0));
         DIT_NAN.when(p.lo.is_nan());
@@ -510,18 +511,18 @@ fn unsound(t: &Plain, call: &Call) {
         HELD_LONG.when(d == next(LONG));
         HELD_NAN.when(d.is_nan());
     }
-    if t.has_wpm {
+    if t.has_wpm.is() {
         WPM_ZERO.when(t.wpm_ema.to_bits() == 0);
         WPM_MINUS.when(t.wpm_ema.to_bits() == 1 << 31);
         WPM_INFINITE.when(t.wpm_ema == f32::INFINITY);
         WPM_NAN.when(t.wpm_ema.is_nan());
     }
-    if t.has_egap {
+    if t.has_egap.is() {
         EGAP_ZERO.when(t.mu_egap_ms == 0.0);
         EGAP_INFINITE.when(t.mu_egap_ms == f32::INFINITY);
         EGAP_NAN.when(t.mu_egap_ms.is_nan());
     }
-    if t.has_hint {
+    if t.has_hint.is() {
         HINT_BELOW.when(t.ratio_hint == last(2.2));
         HINT_ABOVE.when(t.ratio_hint == next(6.0));
         HINT_NAN.when(t.ratio_hint.is_nan());
@@ -538,7 +539,7 @@ fn durations(t: &Plain) -> impl Iterator<Item = f32> + '_ {
 /// What is just sound, and what is no part of a tracker.
 fn sound(t: &Plain) {
     let p = &t.pair;
-    if p.ready {
+    if p.ready.is() {
         DIT_LEAST.when(p.lo == 20.0);
         DIT_MOST.when(p.lo == 150.0);
         DAH_LEAST.when(p.hi == 16.0);
@@ -555,9 +556,9 @@ fn sound(t: &Plain) {
     }
     HELD_LIMITS.when(durations(t).any(|d| d == SHORT) && durations(t).any(|d| d == LONG));
     let least = |x: f32| x.to_bits() == 1 || x == f32::MAX;
-    WPM_LIMITS.when(t.has_wpm && least(t.wpm_ema));
-    EGAP_LIMITS.when(t.has_egap && least(t.mu_egap_ms));
-    HINT_LIMITS.when(t.has_hint && (t.ratio_hint == 2.2 || t.ratio_hint == 6.0));
+    WPM_LIMITS.when(t.has_wpm.is() && least(t.wpm_ema));
+    EGAP_LIMITS.when(t.has_egap.is() && least(t.mu_egap_ms));
+    HINT_LIMITS.when(t.has_hint.is() && (t.ratio_hint == 2.2 || t.ratio_hint == 6.0));
     ABSENT.when(
         !t.has_wpm && t.wpm_ema.is_nan() && !t.has_hint && t.ratio_hint.is_nan()
             || t.ring[t.ring_len..].iter().any(|e| e.pre_lo.is_nan()),

@@ -6,6 +6,7 @@ mod count;
 use crate::compare::{agree, Difference, Layer};
 use crate::hullathan::tracker as ours;
 use crate::hullathan::tracker::{RingEntry, SpeedTracker as Plain};
+use crate::hullathan::Bit;
 use crate::manta::timing::SpeedTracker;
 use crate::random::Random;
 use crate::refusals;
@@ -130,7 +131,8 @@ impl fmt::Debug for Call {
 
 /// A part set.
 pub fn set(t: &mut Plain, part: Part, i: u8, v: u32) {
-    let (x, on, n, i) = (f32::from_bits(v), v != 0, v as usize, usize::from(i));
+    let (x, on) = (f32::from_bits(v), Bit::from(v != 0));
+    let (n, i) = (v as usize, usize::from(i));
     match part {
         Part::Lo => t.pair.lo = x,
         Part::Hi => t.pair.hi = x,
@@ -159,6 +161,25 @@ pub fn set(t: &mut Plain, part: Part, i: u8, v: u32) {
     }
 }
 
+/// Every flag of a tracker, those beyond its counts too.
+pub fn flags(t: &mut Plain) -> Vec<&mut Bit> {
+    let p = &mut t.pair;
+    let of_ring = t.ring.iter_mut().map(|e| &mut e.assigned_dit);
+    [
+        &mut p.ready,
+        &mut p.confirmed,
+        &mut p.placeholder_is_lo,
+        &mut t.has_wpm,
+        &mut t.has_egap,
+        &mut t.has_hint,
+        &mut t.badlock_recovered,
+        &mut t.lo_uncorroborated,
+    ]
+    .into_iter()
+    .chain(of_ring)
+    .collect()
+}
+
 /// A tracker that is handed in, part for part, onto a fresh one.
 pub fn parts(t: &Plain) -> Vec<Call> {
     let p = &t.pair;
@@ -168,31 +189,31 @@ pub fn parts(t: &Plain) -> Vec<Call> {
     put(Part::Lo, 0, bits(p.lo));
     put(Part::Hi, 0, bits(p.hi));
     put(Part::InitLen, 0, p.init_len as u32);
-    put(Part::Ready, 0, u32::from(p.ready));
-    put(Part::Confirmed, 0, u32::from(p.confirmed));
-    put(Part::PlaceholderIsLo, 0, u32::from(p.placeholder_is_lo));
+    put(Part::Ready, 0, u32::from(p.ready.0));
+    put(Part::Confirmed, 0, u32::from(p.confirmed.0));
+    put(Part::PlaceholderIsLo, 0, u32::from(p.placeholder_is_lo.0));
     put(Part::LoN, 0, p.lo_n as u32);
     put(Part::RingLen, 0, t.ring_len as u32);
     for i in 0..12 {
         put(Part::Init, i, bits(p.init[i]));
         put(Part::RingDur, i, bits(t.ring[i].dur_ms));
-        put(Part::RingDit, i, u32::from(t.ring[i].assigned_dit));
+        put(Part::RingDit, i, u32::from(t.ring[i].assigned_dit.0));
         put(Part::RingLo, i, bits(t.ring[i].pre_lo));
         put(Part::RingHi, i, bits(t.ring[i].pre_hi));
     }
-    put(Part::HasWpm, 0, u32::from(t.has_wpm));
+    put(Part::HasWpm, 0, u32::from(t.has_wpm.0));
     put(Part::Wpm, 0, bits(t.wpm_ema));
     put(Part::RecentLen, 0, t.recent_len as u32);
     for i in 0..5 {
         put(Part::Recent, i, bits(t.recent[i]));
     }
-    put(Part::HasEgap, 0, u32::from(t.has_egap));
+    put(Part::HasEgap, 0, u32::from(t.has_egap.0));
     put(Part::Egap, 0, bits(t.mu_egap_ms));
-    put(Part::HasHint, 0, u32::from(t.has_hint));
+    put(Part::HasHint, 0, u32::from(t.has_hint.0));
     put(Part::Hint, 0, bits(t.ratio_hint));
     put(Part::Regime, 0, t.regime);
-    put(Part::Recovered, 0, u32::from(t.badlock_recovered));
-    put(Part::Uncorroborated, 0, u32::from(t.lo_uncorroborated));
+    put(Part::Recovered, 0, u32::from(t.badlock_recovered.0));
+    put(Part::Uncorroborated, 0, u32::from(t.lo_uncorroborated.0));
     all
 }
 
@@ -203,19 +224,19 @@ pub fn manta(t: &Plain) -> SpeedTracker {
     m.pair.lo = p.lo;
     m.pair.hi = p.hi;
     m.pair.init = p.init[..p.init_len].to_vec();
-    m.pair.ready = p.ready;
-    m.pair.confirmed = p.confirmed;
-    m.pair.placeholder_is_lo = p.placeholder_is_lo;
+    m.pair.ready = p.ready.is();
+    m.pair.confirmed = p.confirmed.is();
+    m.pair.placeholder_is_lo = p.placeholder_is_lo.is();
     m.pair.lo_n = p.lo_n;
-    let entry = |e: &RingEntry| (e.dur_ms, e.assigned_dit, e.pre_lo, e.pre_hi);
+    let entry = |e: &RingEntry| (e.dur_ms, e.assigned_dit.is(), e.pre_lo, e.pre_hi);
     m.ring = t.ring[..t.ring_len].iter().map(entry).collect();
-    m.wpm_ema = t.has_wpm.then_some(t.wpm_ema);
+    m.wpm_ema = t.has_wpm.is().then_some(t.wpm_ema);
     m.recent = t.recent[..t.recent_len].iter().copied().collect();
-    m.mu_egap_ms = t.has_egap.then_some(t.mu_egap_ms);
-    m.ratio_hint = t.has_hint.then_some(t.ratio_hint);
+    m.mu_egap_ms = t.has_egap.is().then_some(t.mu_egap_ms);
+    m.ratio_hint = t.has_hint.is().then_some(t.ratio_hint);
     m.regime = t.regime;
-    m.badlock_recovered = t.badlock_recovered;
-    m.lo_uncorroborated = t.lo_uncorroborated;
+    m.badlock_recovered = t.badlock_recovered.is();
+    m.lo_uncorroborated = t.lo_uncorroborated.is();
     m
 }
 
@@ -227,10 +248,10 @@ pub fn same_floats<'a>(a: &[f32], b: impl ExactSizeIterator<Item = &'a f32>) -> 
     a.len() == b.len() && a.iter().zip(b).all(|(&a, &b)| same_float(a, b))
 }
 
-pub fn same_option(has: bool, x: f32, other: Option<f32>) -> bool {
+pub fn same_option(has: Bit, x: f32, other: Option<f32>) -> bool {
     match other {
-        Some(y) => has && same_float(x, y),
-        None => !has,
+        Some(y) => has == Bit::YES && same_float(x, y),
+        None => has == Bit::NO,
     }
 }
 
@@ -245,14 +266,19 @@ pub fn same(t: &Plain, m: &SpeedTracker) -> bool {
         && t.recent_len <= 5
         && same_floats(&p.init[..p.init_len], q.init.iter())
         && (p.ready, p.confirmed, p.placeholder_is_lo, p.lo_n)
-            == (q.ready, q.confirmed, q.placeholder_is_lo, q.lo_n)
+            == (
+                Bit::from(q.ready),
+                Bit::from(q.confirmed),
+                Bit::from(q.placeholder_is_lo),
+                q.lo_n,
+            )
         && t.ring_len == m.ring.len()
         && t.ring
             .iter()
             .zip(&m.ring)
             .all(|(e, &(dur_ms, is_dit, pre_lo, pre_hi))| {
                 same_float(e.dur_ms, dur_ms)
-                    && e.assigned_dit == is_dit
+                    && e.assigned_dit == Bit::from(is_dit)
                     && same_float(e.pre_lo, pre_lo)
                     && same_float(e.pre_hi, pre_hi)
             })
@@ -261,7 +287,11 @@ pub fn same(t: &Plain, m: &SpeedTracker) -> bool {
         && same_option(t.has_egap, t.mu_egap_ms, m.mu_egap_ms)
         && same_option(t.has_hint, t.ratio_hint, m.ratio_hint)
         && (t.regime, t.badlock_recovered, t.lo_uncorroborated)
-            == (m.regime, m.badlock_recovered, m.lo_uncorroborated)
+            == (
+                m.regime,
+                Bit::from(m.badlock_recovered),
+                Bit::from(m.lo_uncorroborated),
+            )
 }
 
 /// Whether two are the same bit for bit, places beyond a count and absent numbers too.
