@@ -1,11 +1,14 @@
-// Replays a list of calls of `station`, one a line of standard input, and prints an answer to each. Both files were written by
+// Replays a list of calls of a station in plain form, one a line of standard input, and prints an answer to each. Both files were written by
 // `oracle replay station crates/station_replay`: stdout has the answers of the Rust that the library replaces, driven as document 01's
 // "Station" says. A line is a letter, a digit and three fields of 8 hexadecimal digits, parted by blanks: W a fresh station (the
 // digit: switching; the width), E an event (the digit: live; its kind, its number), A shows the rivals and the primary whole.
-use exports::of_station as calls;
+use hullathan::call::called;
+use hullathan::start::started;
 use plain::PlainDeparture;
 use plain::PlainHypothesis;
 use plain_station::PlainStation;
+use plain_tracker::from::tracker_of;
+use plain_tracker::to::number_of;
 use replay::float;
 use replay::put_byte;
 use replay::put_code;
@@ -65,7 +68,7 @@ fn put_rival(h: PlainHypothesis) {
     put_word(h.age_marks);
     put_code(h.origin);
     let t = h.tracker;
-    put_tracker(t);
+    put_tracker(tracker_of(t));
 }
 
 fn put_rival_at(s: PlainStation, i: usize) {
@@ -82,7 +85,7 @@ fn put_rival_at(s: PlainStation, i: usize) {
 fn put_all(s: PlainStation) {
     put_byte(b'A');
     let p = s.primary;
-    put_tracker(p);
+    put_tracker(tracker_of(p));
     for i in 0..8 {
         put_rival_at(s, i);
     }
@@ -90,22 +93,23 @@ fn put_all(s: PlainStation) {
 }
 
 fn start(width: u32, switching: bool) -> PlainStation {
-    let a = calls::hullathan_station_fresh(width as usize, switching);
+    let a = started(width as usize, number_of(switching));
     put_byte(b'W');
-    put_code(a.code);
+    put_code(a.code % 128);
     let s = a.station;
     put_books(s);
     s
 }
 
 fn call(s: PlainStation, kind: u32, value: f32, live: bool) -> PlainStation {
-    let a = calls::hullathan_station_call(s, (kind % 256) as u8, value, live);
+    let c = called(s, (kind % 256) as u8, number_of(live), value);
+    let a = c.answer;
     put_byte(b'E');
-    put_flag(a.refused);
-    put_code(a.code);
+    put_flag(a.code >= 128);
+    put_code(a.code % 128);
     let left = a.left;
     put_left(left, a.left_len);
-    let next = a.station;
+    let next = c.station;
     put_books(next);
     next
 }
@@ -145,7 +149,7 @@ fn step(s: PlainStation) -> After {
 }
 
 fn first_station() -> PlainStation {
-    let a = calls::hullathan_station_fresh(1, false);
+    let a = started(1, 0);
     a.station
 }
 

@@ -13,6 +13,9 @@ abbrev μ-loop : tie.MeasureT-loop
 put-byte-requires : tie.Need-put-byte-requires Inv-loop μ-loop
 put-byte-requires c κs = tt
 
+tracker-of-requires : tie.Need-tracker-of-requires Inv-loop μ-loop
+tracker-of-requires c κs = tt
+
 put-tracker-requires : tie.Need-put-tracker-requires Inv-loop μ-loop
 put-tracker-requires c κs = tt
 
@@ -44,6 +47,7 @@ put-all-spec =
     Inv-loop
     μ-loop
     put-byte-requires
+    tracker-of-requires
     put-tracker-requires
     loop-holds
     put-rival-at-requires
