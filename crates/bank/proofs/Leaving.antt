@@ -7,7 +7,7 @@ use Prim.Native.Nat.{ℕ, zero, suc, _+_, _≤_, _<_}
 use native.Mathlib.Numerals.{add-one}
 use native.Mathlib.Nat.{add-zero}
 use native.Mathlib.Omega.{arith}
-use lib.ListN.{length, take, drop, getD, set, length-set}
+use lib.ListN.{length, take, drop, getD, set, length-set, length-map, List·getD-map}
 use lib.Seq.{take-suc, drop-set-lt, getD-take, take-all, drop-drop, getD-drop}
 use Rattle.ranges.specs.Settings.{standard}
 use lib.Ieee.{Float}
@@ -87,25 +87,26 @@ none-found : (q : Hyp → Bool) → Unfound ≡ highestFrom q 0 Unfound []
 unfolding highestFrom
 none-found q = refl
 
--- ---- the loop: i were looked at, w of them stay, each sent through u, and g left, g₀ of them before; best is the choice among those that q picks
-module _ (f : Hyp → Option Cause) (u : Hyp → Hyp) (q : Hyp → Bool) (b : TimingBank) (gone₀ : List Departure) (g₀ : ℕ) where
+-- ---- the loop: of the crowd, i were looked at, w of them stay, each sent through u, and g left, g₀ of them before; best is the choice among those that q picks
+module _ (f : Hyp → Option Cause) (u : Hyp → Hyp) (q : Hyp → Bool) (crowd : List Hyp) (b : TimingBank) (gone₀ : List Departure) (g₀ : ℕ) where
   pub record Sifting (c : TimingBank) (gone : List Departure) (g : ℕ) (best : Best) (w i : ℕ) : Type 0 where
     pub upto : i ≤ b .«challengers_len»
     pub sum : g + w ≡ g₀ + i
     pub behind : w ≤ i
     pub same : c ≡ restocked b (c .challengers)
-    pub front : viewAll w (c .challengers) ≡ map u (staying f (take i (view b .challengers)))
+    pub front : viewAll w (c .challengers) ≡ map u (staying f (take i crowd))
     pub choice : best ≡ highestFrom q 0 Unfound (viewAll w (c .challengers))
     pub rest : drop i (c .challengers) ≡ drop i (b .challengers)
-    pub left : take g gone ≡ take g₀ gone₀ ++ leaving f (take i (view b .challengers))
+    pub left : take g gone ≡ take g₀ gone₀ ++ leaving f (take i crowd)
     pub long : length (c .challengers) ≡ widest
     pub space : length gone ≡ 9
     pub few : g₀ ≤ 1
     pub fine : All Fit (take w (c .challengers))
     pub steady : Steady b
+    pub many : length crowd ≡ b .«challengers_len»
 
-  pub sift-begins : Steady b → g₀ ≤ 1 → length gone₀ ≡ 9 → Sifting b gone₀ g₀ Unfound 0 0
-  sift-begins s k r = record {
+  pub sift-begins : length crowd ≡ b .«challengers_len» → Steady b → g₀ ≤ 1 → length gone₀ ≡ 9 → Sifting b gone₀ g₀ Unfound 0 0
+  sift-begins y s k r = record {
     upto = omega arith;
     sum = refl;
     behind = omega arith;
@@ -119,114 +120,154 @@ module _ (f : Hyp → Option Cause) (u : Hyp → Hyp) (q : Hyp → Bool) (b : Ti
     few = k;
     fine = all-none Fit;
     steady = s;
+    many = y;
   }
 
   module _ (c : TimingBank) (gone : List Departure) (g : ℕ) (best : Best) (w i : ℕ) (z : TimingHypothesis) (k : Sifting c gone g best w i) (h : i < b .«challengers_len») where
-    abbrev it : TimingHypothesis
-    it = getD (c .challengers) i z
+    abbrev here : TimingHypothesis
+    here = getD (c .challengers) i z
 
-    here : it ≡ getD (b .challengers) i z
-    here =
+    pub sift-here : here ≡ getD (b .challengers) i z
+    sift-here =
         let e : getD (drop i (c .challengers)) 0 z ≡ getD (drop i (b .challengers)) 0 z = ap (λ (l : List TimingHypothesis). getD l 0 z) (k .rest) in
         simp (getD-drop, add-zero) at e
 
-    seen : getD (view b .challengers) i (viewHyp z) ≡ viewHyp it
-    seen = view-at viewHyp (b .«challengers_len») (b .challengers) i z h ∙ ap viewHyp (sym here)
-
-    size : i < length (view b .challengers)
-    size = let e = view-length viewHyp (b .«challengers_len») (b .challengers) (room (b .«challengers_len») (b .challengers) (k .steady .crew)) in omega arith
+    size : i < length crowd
+    size = let e = k .many in omega arith
 
     after : drop (i + 1) (c .challengers) ≡ drop (i + 1) (b .challengers)
     after = sym (drop-drop 1 i (c .challengers)) ∙ ap (drop 1) (k .rest) ∙ drop-drop 1 i (b .challengers)
 
-    pub sift-member : Fit it
-    sift-member = subst Fit (sym here) (member (b .«challengers_len») (b .challengers) i z h (k .steady .crew))
+    pub sift-member : Fit here
+    sift-member = subst Fit (sym sift-here) (member (b .«challengers_len») (b .challengers) i z h (k .steady .crew))
 
-    stays : isNone (f (viewHyp it)) ≡ true → staying f (take i (view b .challengers)) ++ (viewHyp it ∷ []) ≡ staying f (take (i + 1) (view b .challengers))
-    stays t =
-        ap (λ (o : Option Cause). staying f (take i (view b .challengers)) ++ stayIf o (viewHyp it) []) (sym (no-cause (f (viewHyp it)) t))
-        ∙ sym (stay-next f (view b .challengers) i (viewHyp z) (viewHyp it) size seen)
+    -- the one that is looked at is it
+    module _ (it : TimingHypothesis) (o : Hyp) (seen : getD crowd i o ≡ viewHyp it) where
+      stays : isNone (f (viewHyp it)) ≡ true → staying f (take i crowd) ++ (viewHyp it ∷ []) ≡ staying f (take (i + 1) crowd)
+      stays t =
+          ap (λ (o : Option Cause). staying f (take i crowd) ++ stayIf o (viewHyp it) []) (sym (no-cause (f (viewHyp it)) t))
+          ∙ sym (stay-next f crowd i o (viewHyp it) size seen)
 
-    -- it stays, as e
-    module _ (e : TimingHypothesis) (r : (viewHyp e ≡ u (viewHyp it)) × Fit e) (t : isNone (f (viewHyp it)) ≡ true) where
-      abbrev more : List TimingHypothesis
-      more = set (c .challengers) w e
+      -- it stays, as e
+      module _ (e : TimingHypothesis) (r : (viewHyp e ≡ u (viewHyp it)) × Fit e) (t : isNone (f (viewHyp it)) ≡ true) where
+        abbrev more : List TimingHypothesis
+        more = set (c .challengers) w e
 
-      room-there : w < length (c .challengers)
-      room-there =
+        room-there : w < length (c .challengers)
+        room-there =
+            let n = k .steady .crew .few in
+            let m = k .behind in
+            let l = k .long in
+            omega arith
+
+        at-end : take (w + 1) more ≡ take w (c .challengers) ++ (e ∷ [])
+        at-end = put-at-end (c .challengers) w e room-there
+
+        viewed : viewAll (w + 1) more ≡ viewAll w (c .challengers) ++ (viewHyp e ∷ [])
+        viewed = ap (map viewHyp) at-end ∙ map-snoc viewHyp (take w (c .challengers)) e
+
+        chosen : (best' : Best) → best' ≡ cond (q (viewHyp e)) (higher w (e .score) best) best → best' ≡ highestFrom q 0 Unfound (viewAll (w + 1) more)
+        chosen best' y =
+            let l = view-length viewHyp w (c .challengers) (let j = room-there in omega arith) in
+            let n : w ≡ 0 + length (viewAll w (c .challengers)) = omega arith in
+            y ∙ ap (λ (x : Best). cond (q (viewHyp e)) (higher w (e .score) x) x) (k .choice)
+            ∙ ap (λ (j : ℕ). cond (q (viewHyp e)) (higher j (e .score) (highestFrom q 0 Unfound (viewAll w (c .challengers)))) (highestFrom q 0 Unfound (viewAll w (c .challengers)))) n
+            ∙ sym (highest-snoc q 0 Unfound (viewAll w (c .challengers)) (viewHyp e)) ∙ ap (highestFrom q 0 Unfound) (sym viewed)
+
+        pub sift-keeps : (best' : Best) → best' ≡ cond (q (viewHyp e)) (higher w (e .score) best) best → Sifting (restocked c more) gone g best' (w + 1) (i + 1)
+        sift-keeps best' y =
+            let m = k .behind in
+            let j = k .sum in
+            let none-is = no-cause (f (viewHyp it)) t in
+            let s : List Hyp = staying f (take i crowd) in
+            record {
+              upto = omega arith;
+              sum = omega arith;
+              behind = omega arith;
+              same = ap (λ (x : TimingBank). restocked x more) (k .same);
+              front =
+                  viewed ∙ ap (λ (l : List Hyp). l ++ (viewHyp e ∷ [])) (k .front) ∙ ap (λ (x : Hyp). map u s ++ (x ∷ [])) (r .0)
+                  ∙ sym (map-snoc u s (viewHyp it)) ∙ ap (map u) (stays t);
+              choice = chosen best' y;
+              rest = drop-set-lt (i + 1) (c .challengers) w e (omega arith) ∙ after;
+              left =
+                  k .left ∙ ap (λ (l : List Departure). take g₀ gone₀ ++ l)
+                  (sym (append-nil (leaving f (take i crowd))) ∙ ap (λ (x : Option Cause). leaving f (take i crowd) ++ leaveIf x (viewHyp it) []) (sym none-is) ∙ sym (leave-next f crowd i o (viewHyp it) size seen));
+              long = length-set (c .challengers) w e ∙ k .long;
+              space = k .space;
+              few = k .few;
+              fine = subst (All Fit) (sym at-end) (all-append Fit (take w (c .challengers)) e (k .fine) (r .1));
+              steady = k .steady;
+              many = k .many;
+            }
+
+      pub sift-drops : (y : Cause) → some y ≡ f (viewHyp it) → Sifting c (set gone g (record { serial = it .serial; cause = y })) (g + 1) best w (i + 1)
+      sift-drops y e =
           let n = k .steady .crew .few in
-          let m = k .behind in
-          let l = k .long in
-          omega arith
-
-      at-end : take (w + 1) more ≡ take w (c .challengers) ++ (e ∷ [])
-      at-end = put-at-end (c .challengers) w e room-there
-
-      viewed : viewAll (w + 1) more ≡ viewAll w (c .challengers) ++ (viewHyp e ∷ [])
-      viewed = ap (map viewHyp) at-end ∙ map-snoc viewHyp (take w (c .challengers)) e
-
-      chosen : (best' : Best) → best' ≡ cond (q (viewHyp e)) (higher w (e .score) best) best → best' ≡ highestFrom q 0 Unfound (viewAll (w + 1) more)
-      chosen best' y =
-          let l = view-length viewHyp w (c .challengers) (let j = room-there in omega arith) in
-          let n : w ≡ 0 + length (viewAll w (c .challengers)) = omega arith in
-          y ∙ ap (λ (x : Best). cond (q (viewHyp e)) (higher w (e .score) x) x) (k .choice)
-          ∙ ap (λ (j : ℕ). cond (q (viewHyp e)) (higher j (e .score) (highestFrom q 0 Unfound (viewAll w (c .challengers)))) (highestFrom q 0 Unfound (viewAll w (c .challengers)))) n
-          ∙ sym (highest-snoc q 0 Unfound (viewAll w (c .challengers)) (viewHyp e)) ∙ ap (highestFrom q 0 Unfound) (sym viewed)
-
-      pub sift-keeps : (best' : Best) → best' ≡ cond (q (viewHyp e)) (higher w (e .score) best) best → Sifting (restocked c more) gone g best' (w + 1) (i + 1)
-      sift-keeps best' y =
-          let m = k .behind in
+          let m = k .few in
           let j = k .sum in
-          let o = no-cause (f (viewHyp it)) t in
-          let s : List Hyp = staying f (take i (view b .challengers)) in
+          let l = k .space in
+          let d : Departure = record { serial = it .serial; cause = y } in
           record {
             upto = omega arith;
             sum = omega arith;
-            behind = omega arith;
-            same = ap (λ (x : TimingBank). restocked x more) (k .same);
+            behind = let a = k .behind in omega arith;
+            same = k .same;
             front =
-                viewed ∙ ap (λ (l : List Hyp). l ++ (viewHyp e ∷ [])) (k .front) ∙ ap (λ (x : Hyp). map u s ++ (x ∷ [])) (r .0)
-                ∙ sym (map-snoc u s (viewHyp it)) ∙ ap (map u) (stays t);
-            choice = chosen best' y;
-            rest = drop-set-lt (i + 1) (c .challengers) w e (omega arith) ∙ after;
+                k .front ∙ ap (map u)
+                (sym (append-nil (staying f (take i crowd))) ∙ ap (λ (o : Option Cause). staying f (take i crowd) ++ stayIf o (viewHyp it) []) e
+                ∙ sym (stay-next f crowd i o (viewHyp it) size seen));
+            choice = k .choice;
+            rest = after;
             left =
-                k .left ∙ ap (λ (l : List Departure). take g₀ gone₀ ++ l)
-                (sym (append-nil (leaving f (take i (view b .challengers)))) ∙ ap (λ (x : Option Cause). leaving f (take i (view b .challengers)) ++ leaveIf x (viewHyp it) []) (sym o) ∙ sym (leave-next f (view b .challengers) i (viewHyp z) (viewHyp it) size seen));
-            long = length-set (c .challengers) w e ∙ k .long;
-            space = k .space;
+                put-at-end gone g d (omega arith) ∙ ap (λ (r : List Departure). r ++ (d ∷ [])) (k .left) ∙ append-assoc (take g₀ gone₀) (leaving f (take i crowd)) (d ∷ [])
+                ∙ ap (λ (r : List Departure). take g₀ gone₀ ++ r)
+                (ap (λ (o : Option Cause). leaving f (take i crowd) ++ leaveIf o (viewHyp it) []) e ∙ sym (leave-next f crowd i o (viewHyp it) size seen));
+            long = k .long;
+            space = length-set gone g d ∙ k .space;
             few = k .few;
-            fine = subst (All Fit) (sym at-end) (all-append Fit (take w (c .challengers)) e (k .fine) (r .1));
+            fine = k .fine;
             steady = k .steady;
+            many = k .many;
           }
 
-    pub sift-drops : (y : Cause) → some y ≡ f (viewHyp it) → Sifting c (set gone g (record { serial = it .serial; cause = y })) (g + 1) best w (i + 1)
-    sift-drops y e =
-        let n = k .steady .crew .few in
-        let m = k .few in
-        let j = k .sum in
-        let l = k .space in
-        let d : Departure = record { serial = it .serial; cause = y } in
-        record {
-          upto = omega arith;
-          sum = omega arith;
-          behind = let a = k .behind in omega arith;
-          same = k .same;
-          front =
-              k .front ∙ ap (map u)
-              (sym (append-nil (staying f (take i (view b .challengers)))) ∙ ap (λ (o : Option Cause). staying f (take i (view b .challengers)) ++ stayIf o (viewHyp it) []) e
-              ∙ sym (stay-next f (view b .challengers) i (viewHyp z) (viewHyp it) size seen));
-          choice = k .choice;
-          rest = after;
-          left =
-              put-at-end gone g d (omega arith) ∙ ap (λ (r : List Departure). r ++ (d ∷ [])) (k .left) ∙ append-assoc (take g₀ gone₀) (leaving f (take i (view b .challengers))) (d ∷ [])
-              ∙ ap (λ (r : List Departure). take g₀ gone₀ ++ r)
-              (ap (λ (o : Option Cause). leaving f (take i (view b .challengers)) ++ leaveIf o (viewHyp it) []) e ∙ sym (leave-next f (view b .challengers) i (viewHyp z) (viewHyp it) size seen));
-          long = k .long;
-          space = length-set gone g d ∙ k .space;
-          few = k .few;
-          fine = k .fine;
-          steady = k .steady;
-        }
+-- the crowd is as many as the challengers
+pub sift-many : (b : TimingBank) → Steady b → length (view b .challengers) ≡ b .«challengers_len»
+sift-many b s = view-length viewHyp (b .«challengers_len») (b .challengers) (room (b .«challengers_len») (b .challengers) (s .crew))
+
+pub heard-many : (m : Hyp → Hyp) (b : TimingBank) → Steady b → length (map m (view b .challengers)) ≡ b .«challengers_len»
+heard-many m b s = length-map (view b .challengers) m ∙ sift-many b s
+
+module _ (f : Hyp → Option Cause) (u : Hyp → Hyp) (q : Hyp → Bool) (b : TimingBank) (gone₀ : List Departure) (g₀ : ℕ) (c : TimingBank) (gone : List Departure) (g : ℕ) (best : Best) (w i : ℕ) (z : TimingHypothesis) where
+  abbrev it : TimingHypothesis
+  it = getD (c .challengers) i z
+
+  -- the crowd is the challengers as they stand
+  module _ (k : Sifting f u q (view b .challengers) b gone₀ g₀ c gone g best w i) (h : i < b .«challengers_len») where
+    seen : getD (view b .challengers) i (viewHyp z) ≡ viewHyp it
+    seen = view-at viewHyp (b .«challengers_len») (b .challengers) i z h ∙ ap viewHyp (sym (sift-here f u q (view b .challengers) b gone₀ g₀ c gone g best w i z k h))
+
+    pub keeps-here : (e : TimingHypothesis) → (viewHyp e ≡ u (viewHyp it)) × Fit e → isNone (f (viewHyp it)) ≡ true → (best' : Best) → best' ≡ cond (q (viewHyp e)) (higher w (e .score) best) best → Sifting f u q (view b .challengers) b gone₀ g₀ (restocked c (set (c .challengers) w e)) gone g best' (w + 1) (i + 1)
+    keeps-here = sift-keeps f u q (view b .challengers) b gone₀ g₀ c gone g best w i z k h it (viewHyp z) seen
+
+    pub drops-here : (y : Cause) → some y ≡ f (viewHyp it) → Sifting f u q (view b .challengers) b gone₀ g₀ c (set gone g (record { serial = it .serial; cause = y })) (g + 1) best w (i + 1)
+    drops-here = sift-drops f u q (view b .challengers) b gone₀ g₀ c gone g best w i z k h it (viewHyp z) seen
+
+  -- the crowd is the challengers, each sent through m; this one is n then
+  module _ (m : Hyp → Hyp) (k : Sifting f u q (map m (view b .challengers)) b gone₀ g₀ c gone g best w i) (h : i < b .«challengers_len») (n : TimingHypothesis) (s : viewHyp n ≡ m (viewHyp it)) where
+    heard : getD (map m (view b .challengers)) i (m (viewHyp z)) ≡ viewHyp n
+    heard =
+        List·getD-map m (view b .challengers) i (viewHyp z)
+        ∙ ap m (view-at viewHyp (b .«challengers_len») (b .challengers) i z h ∙ ap viewHyp (sym (sift-here f u q (map m (view b .challengers)) b gone₀ g₀ c gone g best w i z k h)))
+        ∙ sym s
+
+    pub keeps-heard : (e : TimingHypothesis) → (viewHyp e ≡ u (viewHyp n)) × Fit e → isNone (f (viewHyp n)) ≡ true → (best' : Best) → best' ≡ cond (q (viewHyp e)) (higher w (e .score) best) best → Sifting f u q (map m (view b .challengers)) b gone₀ g₀ (restocked c (set (c .challengers) w e)) gone g best' (w + 1) (i + 1)
+    keeps-heard = sift-keeps f u q (map m (view b .challengers)) b gone₀ g₀ c gone g best w i z k h n (m (viewHyp z)) heard
+
+    pub drops-heard : (y : Departure) → (y .serial ≡ n .serial) × (some (y .cause) ≡ f (viewHyp n)) → Sifting f u q (map m (view b .challengers)) b gone₀ g₀ c (set gone g y) (g + 1) best w (i + 1)
+    drops-heard y e =
+        subst (λ (x : ℕ). Sifting f u q (map m (view b .challengers)) b gone₀ g₀ c (set gone g (record { serial = x; cause = y .cause })) (g + 1) best w (i + 1)) (sym (e .0))
+        (sift-drops f u q (map m (view b .challengers)) b gone₀ g₀ c gone g best w i z k h n (m (viewHyp z)) heard (y .cause) (e .1))
 
 -- a bank with another count and another choice
 abbrev pub counted : TimingBank → ℕ → Bool → ℕ → TimingBank
@@ -278,8 +319,8 @@ place-before : (v : Best) (n w : ℕ) → Before w v → isFound v ≡ true → 
 place-before Unfound n w h e = absurd (false≢true e)
 place-before (Found i s) n w h e = h
 
-module _ (lo hi : Float) (t : Changed) (c : TimingBank) (gone : List Departure) (g : ℕ) (best : Best) (w i : ℕ)
-    (k : Sifting (causeAt standard (t .bank .«primary_score») lo hi) (led standard (t .bank .«primary_score»)) (qualifies (t .bank .«primary_gap_score»)) (t .bank) (t .left) (t .«left_len») c gone g best w i) (h : t .bank .«challengers_len» ≤ i) where
+module _ (lo hi : Float) (crowd : List Hyp) (t : Changed) (c : TimingBank) (gone : List Departure) (g : ℕ) (best : Best) (w i : ℕ)
+    (k : Sifting (causeAt standard (t .bank .«primary_score») lo hi) (led standard (t .bank .«primary_score»)) (qualifies (t .bank .«primary_gap_score»)) crowd (t .bank) (t .left) (t .«left_len») c gone g best w i) (h : t .bank .«challengers_len» ≤ i) where
   abbrev b : TimingBank
   b = t .bank
 
@@ -292,11 +333,15 @@ module _ (lo hi : Float) (t : Changed) (c : TimingBank) (gone : List Departure) 
   abbrev q : Hyp → Bool
   q = qualifies (b .«primary_gap_score»)
 
-  whole : take i (view b .challengers) ≡ view b .challengers
-  whole = let e = view-length viewHyp (b .«challengers_len») (b .challengers) (room (b .«challengers_len») (b .challengers) (k .steady .crew)) in take-all i (view b .challengers) (omega arith)
+  whole : take i crowd ≡ crowd
+  whole = let e = k .many in take-all i crowd (omega arith)
+
+  -- the bank with the crowd in it, and those that had left it
+  abbrev met : Told
+  met = record { bank = withChallengers (view b) crowd; left = take (t .«left_len») (t .left) }
 
   abbrev kept : List Hyp
-  kept = map u (staying f (view b .challengers))
+  kept = map u (staying f crowd)
 
   those : viewAll w (c .challengers) ≡ kept
   those = k .front ∙ ap (λ (l : List Hyp). map u (staying f l)) whole
@@ -304,7 +349,7 @@ module _ (lo hi : Float) (t : Changed) (c : TimingBank) (gone : List Departure) 
   abbrev out : ℕ → Changed
   out n = record { bank = counted c w (isFound best) (placeOr n best); left = gone; «left_len» = g }
 
-  sift-told : (n : ℕ) → told (out n) ≡ leading standard (andThen (told t) (prunedAt standard lo hi))
+  sift-told : (n : ℕ) → told (out n) ≡ leading standard (andThen met (prunedAt standard lo hi))
   unfolding prunedAt qualified
   sift-told n =
       ap (λ (x : TimingBank). told (record { bank = counted x w (isFound best) (placeOr n best); left = gone; «left_len» = g })) (k .same)
@@ -344,7 +389,7 @@ module _ (lo hi : Float) (t : Changed) (c : TimingBank) (gone : List Departure) 
         pending = place-before best n w sift-before;
       })
 
-  ended : (n : ℕ) → Left (out n) (leading standard (andThen (told t) (prunedAt standard lo hi)))
+  ended : (n : ℕ) → Left (out n) (leading standard (andThen met (prunedAt standard lo hi)))
   ended n =
       let s = k .steady in
       let o = s .crew .few in
@@ -354,7 +399,7 @@ module _ (lo hi : Float) (t : Changed) (c : TimingBank) (gone : List Departure) 
       record { is = sift-told n; sturdy = sift-sturdy n; few = omega arith }
 
   abbrev Ends : Bool → ℕ → Type 0
-  Ends has j = Left (record { bank = counted c w has j; left = gone; «left_len» = g }) (leading standard (andThen (told t) (prunedAt standard lo hi)))
+  Ends has j = Left (record { bank = counted c w has j; left = gone; «left_len» = g }) (leading standard (andThen met (prunedAt standard lo hi)))
 
   pub sift-ends : (has : Bool) (n j : ℕ) → has ≡ isFound best → j ≡ placeOr n best → Ends has j
   sift-ends has n j e d = subst (λ (x : Bool). Ends x j) (sym e) (subst (λ (x : ℕ). Ends (isFound best) x) (sym d) (ended n))

@@ -6,6 +6,8 @@ pub mod Coming
 pub mod Choosing
 pub mod Streaking
 pub mod Hearing
+pub mod Beating
+pub mod Pausing
 pub mod Clearing
 pub mod Exchanging
 pub mod Reading

@@ -131,7 +131,7 @@ module _ (b : TimingBank) (s : Sturdy b) where
   emptied-is = (refl, stroke-sturdy (b .streak) 0 (b .«streak_gaps») 0 (b .«has_side») (b .«streak_side») (record { few = omega arith; paired = omega arith; long = s .steady .streaks .long; gapsLong = s .steady .streaks .gapsLong; marks = none-in durationMin durationMax; between = none-in durationMin durationMax }))
 
   -- ---- whether it goes on
-  size : length (b .streak) ≡ 4 → length (view b .evidence .streak) ≡ b .«streak_len»
+  pub size : length (b .streak) ≡ 4 → length (view b .evidence .streak) ≡ b .«streak_len»
   size l = let k = s .steady .streaks .few in length-take-le (b .«streak_len») (b .streak) (omega arith)
 
   on-by : (has : Bool) (x side : Bool) (n : ℕ) → b .«has_side» ≡ has → Bool·beq (b .«streak_side») side ≡ x → length (view b .evidence .streak) ≡ n → goesOn (view b .evidence) side ≡ cond has (x && ltb n 4) false

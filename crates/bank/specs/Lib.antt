@@ -3,3 +3,4 @@ pub mod Parts
 pub mod Sound
 pub mod Switching
 pub mod Answers
+pub mod Beats

@@ -30,7 +30,7 @@ ghost use Rattle.bank.specs.View.{given, view};
 ghost use Rattle.bank.specs.Parts.{GapIn, withStreak, Sturdy, Came};
 
 // Whether the mark d is at the boundary of the pair or above it.
-pub(crate) fn is_high(p: ClusterPair, d: f32) -> bool
+pub fn is_high(p: ClusterPair, d: f32) -> bool
     ensures { λ r. ⌜ r ≡ le (boundary (viewPair p)) d ⌝ }
 {
     root32(p.lo * p.hi) <= d

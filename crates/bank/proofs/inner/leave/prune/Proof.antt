@@ -4,18 +4,19 @@ use Prim.Native.Nat.{_-_}
 use borrow.Author.Needs.{needs}
 use Rattle.ranges.specs.Settings.{standard}
 use Rattle.bank_model.specs.Steps.{causeAt, led, qualifies}
-use Rattle.bank.proofs.Leaving.{Sifting, sift-begins, sift-member, sift-keeps, sift-drops, sift-ends}
+use Rattle.bank.specs.View.{view}
+use Rattle.bank.proofs.Leaving.{Sifting, sift-begins, sift-member, sift-ends, sift-many, keeps-here, drops-here}
 use Rattle.bank.proofs.inner.leave.prune.Statement.{statement}
 use Rattle.bank.proofs.inner.leave.prune.Tie as tie
 
 abbrev Inv-loop : tie.InvT-loop
-Inv-loop lo hi c₀ left₀ g₀ n score gap-score best₀ w₀ i₀ c left g best w i = Sifting (causeAt standard score lo hi) (led standard score) (qualifies gap-score) c₀ left₀ g₀ c left g best w i
+Inv-loop lo hi c₀ left₀ g₀ n score gap-score best₀ w₀ i₀ c left g best w i = Sifting (causeAt standard score lo hi) (led standard score) (qualifies gap-score) (view c₀ .challengers) c₀ left₀ g₀ c left g best w i
 
 abbrev μ-loop : tie.MeasureT-loop
 μ-loop lo hi c₀ left₀ g₀ n score gap-score best₀ w₀ i₀ c left g best w i = n - i
 
 loop-holds : tie.Need-loop-holds Inv-loop μ-loop
-loop-holds c = sift-begins _ _ _ _ _ _ (c .before .before .pre .0) (c .before .before .pre .1 .0) (c .before .before .pre .1 .1)
+loop-holds c = sift-begins _ _ _ _ _ _ _ (sift-many _ (c .before .before .pre .0)) (c .before .before .pre .0) (c .before .before .pre .1 .0) (c .before .before .pre .1 .1)
 
 mul-h : tie.Need-mul-h Inv-loop μ-loop
 mul-h c = search needs
@@ -27,10 +28,10 @@ add-i : tie.Need-add-i Inv-loop μ-loop
 add-i c = search needs
 
 is-kept-requires : tie.Need-is-kept-requires Inv-loop μ-loop
-is-kept-requires c κs = sift-member _ _ _ _ _ _ _ _ _ _ _ _ _ (c .before .before .loop .inv) (c .before .loop-test .taken)
+is-kept-requires c κs = sift-member _ _ _ _ _ _ _ _ _ _ _ _ _ _ (c .before .before .loop .inv) (c .before .loop-test .taken)
 
 lead-one-requires : tie.Need-lead-one-requires Inv-loop μ-loop
-lead-one-requires c κs = sift-member _ _ _ _ _ _ _ _ _ _ _ _ _ (c .before .before .before .before .loop .inv) (c .before .before .before .loop-test .taken)
+lead-one-requires c κs = sift-member _ _ _ _ _ _ _ _ _ _ _ _ _ _ (c .before .before .before .before .loop .inv) (c .before .before .before .loop-test .taken)
 
 better-requires : tie.Need-better-requires Inv-loop μ-loop
 better-requires c κs = search needs
@@ -48,10 +49,10 @@ loop-less : tie.Need-loop-less Inv-loop μ-loop
 loop-less c = search needs
 
 loop-again : tie.Need-loop-again Inv-loop μ-loop
-loop-again c = let s = c .before .before .before .before .before .before in sift-keeps _ _ _ _ _ _ _ _ _ _ _ _ _ (s .loop .inv) (c .before .before .before .before .before .loop-test .taken) _ (c .before .lead-one .ensures) (sym (c .before .before .before .is-kept .ensures) ∙ c .before .before .if1 .taken) _ (c .better .ensures)
+loop-again c = let s = c .before .before .before .before .before .before in keeps-here _ _ _ _ _ _ _ _ _ _ _ _ _ (s .loop .inv) (c .before .before .before .before .before .loop-test .taken) _ (c .before .lead-one .ensures) (sym (c .before .before .before .is-kept .ensures) ∙ c .before .before .if1 .taken) _ (c .better .ensures)
 
 why-requires : tie.Need-why-requires Inv-loop μ-loop
-why-requires c κs = (sift-member _ _ _ _ _ _ _ _ _ _ _ _ _ (c .before .before .before .before .loop .inv) (c .before .before .before .loop-test .taken), sym (c .before .is-kept .ensures) ∙ c .if1 .left)
+why-requires c κs = (sift-member _ _ _ _ _ _ _ _ _ _ _ _ _ _ (c .before .before .before .before .loop .inv) (c .before .before .before .loop-test .taken), sym (c .before .is-kept .ensures) ∙ c .if1 .left)
 
 mul-left : tie.Need-mul-left Inv-loop μ-loop
 mul-left c = search needs
@@ -66,7 +67,7 @@ loop-less-2 : tie.Need-loop-less-2 Inv-loop μ-loop
 loop-less-2 c = search needs
 
 loop-again-2 : tie.Need-loop-again-2 Inv-loop μ-loop
-loop-again-2 c = sift-drops _ _ _ _ _ _ _ _ _ _ _ _ _ (c .before .before .before .before .before .loop .inv) (c .before .before .before .before .loop-test .taken) _ (c .why .ensures)
+loop-again-2 c = drops-here _ _ _ _ _ _ _ _ _ _ _ _ _ (c .before .before .before .before .before .loop .inv) (c .before .before .before .before .loop-test .taken) _ (c .why .ensures)
 
 is-found-requires : tie.Need-is-found-requires Inv-loop μ-loop
 is-found-requires c κs = search needs
@@ -75,7 +76,7 @@ place-or-requires : tie.Need-place-or-requires Inv-loop μ-loop
 place-or-requires c κs = search needs
 
 returns : tie.Need-returns Inv-loop μ-loop
-returns c = sift-ends _ _ (c .before .before .before .before .before .before .args .t) _ _ _ _ _ _ (c .before .before .before .loop .inv) (c .before .before .loop-test .left) _ _ _ (c .before .is-found .ensures) (c .place-or .ensures)
+returns c = sift-ends _ _ _ (c .before .before .before .before .before .before .args .t) _ _ _ _ _ _ (c .before .before .before .loop .inv) (c .before .before .loop-test .left) _ _ _ (c .before .is-found .ensures) (c .place-or .ensures)
 
 pub prune-spec : {M : Type 1} → statement M
 prune-spec =
