@@ -9,3 +9,4 @@ pub mod Watching
 pub mod Steadying
 pub mod Moving
 pub mod Coding
+pub mod Pacing

@@ -3,3 +3,4 @@ pub mod Parts
 pub mod Sound
 pub mod Answers
 pub mod After
+pub mod Pace

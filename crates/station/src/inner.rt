@@ -4,6 +4,7 @@ pub mod after;
 pub mod call;
 pub mod events;
 pub mod fresh;
+pub mod pace;
 pub mod readers;
 pub mod refusals;
 pub mod sound;
