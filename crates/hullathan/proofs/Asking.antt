@@ -29,7 +29,7 @@ use Rattle.station_model.proofs.Lists.{by-cond}
 use Rattle.station.specs.declared.Station.{Station}
 use Rattle.station.specs.declared.Outcome.{Outcome}
 use Rattle.station.specs.View.{outcome, view}
-use Rattle.station.specs.Parts.{Solid}
+use Rattle.station.specs.Parts.{Next, Solid, Steady}
 use Rattle.station.specs.Sound.{sound}
 use Rattle.station.specs.Sound as Struct
 use Rattle.station.specs.Answers.{Called, callRefusal}
@@ -170,6 +170,30 @@ module _ (s : Station) (e : Event) (o : Outcome) (h : T (sound standard s)) (c :
   unfolding asked
   call-asked = by-cond (λ r. outcome o ≡ r) (choiceSound (view s) e) (λ b. by-refusal b (refusal (view s) e) refl) (λ b. refused-by 0 (which ∙ rw b))
 
+-- ---- nothing is pending beside an unready primary: refusal 1 never holds
+
+unready-choice : (p : Option ℕ) (r : Bool) → (r ≡ false → p ≡ none) → not (chosen p && not r) ≡ true
+unready-choice none r f = refl
+unready-choice (some i) true f = refl
+unready-choice (some i) false f = ap (λ (p : Option ℕ). not (chosen p && true)) (f refl)
+
+pub quiet-choice : (m : Model.Station) (e : Event) → (ready (m .primary) ≡ false → m .bank .pending ≡ none) → choiceSound m e ≡ true
+quiet-choice m (Mark d live) s = refl
+quiet-choice m (Gap d) s = refl
+quiet-choice m Finish s = refl
+quiet-choice m (Seed v) s = refl
+quiet-choice m (Hint r) s = refl
+quiet-choice m Clear s = refl
+quiet-choice m Switch s = unready-choice (m .bank .pending) (ready (m .primary)) s
+
+given-none : (has ready : Bool) (i : ℕ) → not (has && not ready) ≡ true → ready ≡ false → given has i ≡ none
+given-none true true i h e = absurd (true≢false e)
+given-none true false i h e = absurd (true≢false (sym h))
+given-none false r i h e = refl
+
+pub steady-of : (s : Station) (b : Bool) → Solid s → b ≡ not (s .bank .«has_pending» && not (s .primary .pair .ready)) → b ≡ true → Steady s
+steady-of s b h e t = record { solid = h; unready = given-none (s .bank .«has_pending») (s .primary .pair .ready) (s .bank .pending) (sym e ∙ t) }
+
 -- ---- one turn
 
 turns-as : (s : Station) (q : Option Event) (o : Outcome) → outcome o ≡ asked (view s) q → Solid (o .station) → o .answer .«left_len» ≤ 9 → Turns s q o
@@ -177,6 +201,10 @@ turns-as s q o e h l = record { is = e; solid = h; few = l; small = subst (λ (r
 
 pub turns-call : (s : Station) (e : Event) (o : Outcome) → Solid s → Called standard s e o × Solid (o .station) → Turns s (some e) o
 turns-call s e o h c = turns-as s (some e) o (call-asked s e o (solid-sound s h) (c .0)) (c .1) (c .0 .few)
+
+pub turns-next : (s : Station) (e : Event) (o : Outcome) → Steady s → Next s e o → Turns s (some e) o
+unfolding asked
+turns-next s e o h n = turns-as s (some e) o (n .is ∙ rw (quiet-choice (view s) e (h .unready))) (n .steady .solid) (n .few)
 
 pub turns-none : (s : Station) (n : ℕ) (o : Outcome) → Solid s → n ≡ cond (full (view s)) 2 12 → (o .answer .code ≡ Codes.Refused n) × ((o .station ≡ s) × (o .answer .«left_len» ≡ 0)) → Turns s none o
 unfolding asked

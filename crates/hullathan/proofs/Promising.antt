@@ -30,6 +30,7 @@ use Rattle.plain_station.specs.declared.PlainStation.{PlainStation}
 use Rattle.hullathan.specs.declared.PlainAnswer.{PlainAnswer}
 use Rattle.hullathan.specs.declared.PlainEvent.{PlainEvent}
 use Rattle.hullathan.specs.Host.{Few, after, asked, choiceSound, chosen, codeNumber, eventOf, good, meant, ofEvent, outcomes, padded, rowOf}
+use Rattle.hullathan.proofs.Asking.{quiet-choice}
 use Rattle.hullathan.specs.Promise.{AllFit, Promised, Turn, Turned, TurnedFrom, addCall, answerOf, callsIn, callsOn, causeOf, codeOf, departureOf}
 
 -- ---- numbers, read back
@@ -72,23 +73,9 @@ row-back o h = λ i. an-answer (code-back (o .answer .code) i) ((ap (map departu
 
 -- ---- a station of a watch is never refused by 1
 
-unready-choice : (p : Option ℕ) (r : Bool) → (r ≡ false → p ≡ none) → not (chosen p && not r) ≡ true
-unready-choice none r f = refl
-unready-choice (some i) true f = refl
-unready-choice (some i) false f = ap (λ (p : Option ℕ). not (chosen p && true)) (f refl)
-
-settled-choice : (m : Model.Station) (e : Event) → Settled m → choiceSound m e ≡ true
-settled-choice m (Mark d live) s = refl
-settled-choice m (Gap d) s = refl
-settled-choice m Finish s = refl
-settled-choice m (Seed v) s = refl
-settled-choice m (Hint r) s = refl
-settled-choice m Clear s = refl
-settled-choice m Switch s = unready-choice (m .bank .pending) (ready (m .primary)) (s .unready)
-
 settled-asked : (m : Model.Station) (e : Event) → Settled m → asked m (some e) ≡ step standard m e
 unfolding asked
-settled-asked m e s = rw (settled-choice m e s)
+settled-asked m e s = rw (quiet-choice m e (s .unready))
 
 -- ---- one call, on what it means: the station after it, and the row that the host found
 

@@ -9,15 +9,24 @@ use plain_station::from::station_of;
 use station::Outcome;
 use station::Station;
 use station::inner::call::call;
+use station::inner::call::next;
+use station::inner::pace::Way;
+use station::inner::pace::beat;
+use station::inner::pace::idle;
+use station::inner::pace::space;
+use station::inner::pace::way_of;
+use station::inner::refusals::is_chosen;
 use station::inner::refusals::is_full;
 use station::inner::refusals::refuse;
 use station::inner::sound::is_sound;
+use station_model::Event;
 ghost use mathlib.Core.Path.{_≡_};
 ghost use mathlib.Core.Bool.{true, cond};
+ghost use mathlib.Core.Option.{some};
 ghost use Prim.Native.Nat.{_≤_};
 ghost use Rattle.station_model.specs.Station.{full, number};
 ghost use Rattle.station.specs.View.{outcome, view};
-ghost use Rattle.station.specs.Parts.{Solid};
+ghost use Rattle.station.specs.Parts.{Next, Solid, Steady};
 ghost use Rattle.plain_station.specs.Plain.{stationOf};
 ghost use Rattle.hullathan.specs.Host.{asked, good, rowOf};
 ghost use Rattle.hullathan.specs.Parts.{Turns, ofAsked};
@@ -44,13 +53,38 @@ pub(crate) fn formless(s: Station) -> u8
     if is_full(s) { 2 } else { 12 }
 }
 
+// An event on a station with no choice beside an unready primary: the short ways copy little of it.
+pub(crate) fn quick(s: Station, e: Event) -> Outcome
+    requires { ⌜ Steady s ⌝ }
+    ensures { λ r. ⌜ Next s e r ⌝ }
+{
+    let w = way_of(s, e);
+    match w {
+        Way::Idle => idle(s, e),
+        Way::Beat(d) => beat(s, e, d),
+        Way::Space(d) => space(s, e, d),
+        Way::Other => next(s, e),
+    }
+}
+
+// An event.
+pub(crate) fn event_on(s: Station, e: Event) -> Outcome
+    requires { ⌜ Solid s ⌝ }
+    ensures { λ r. ⌜ Turns s (some e) r ⌝ }
+{
+    if is_chosen(s) {
+        return quick(s, e);
+    }
+    call(s, e)
+}
+
 // One call.
 pub fn turn(s: Station, a: Asked) -> Outcome
     requires { ⌜ Solid s ⌝ }
     ensures { λ r. ⌜ Turns s (ofAsked a) r ⌝ }
 {
     match a {
-        Asked::Is(e) => call(s, e),
+        Asked::Is(e) => event_on(s, e),
         Asked::Unknown => refuse(s, formless(s)),
     }
 }

@@ -33,7 +33,7 @@ pub(crate) fn is_choice_sound(s: Station, e: Event) -> bool
 }
 
 // Whether a choice, where there is one, stands beside a ready primary.
-pub(crate) fn is_chosen(s: Station) -> bool
+pub fn is_chosen(s: Station) -> bool
     ensures { λ r. ⌜ r ≡ not (s .bank .«has_pending» && not (s .primary .pair .ready)) ⌝ }
 {
     let b = s.bank;
