@@ -2,16 +2,17 @@
 use mathlib.Core.Path.{_≡_, refl, ap, sym, _∙_, subst}
 use mathlib.Core.Bool.{Bool, true, false, cond, true≢false}
 use mathlib.Core.List.{List, [], _∷_}
-use mathlib.Core.Option.{Option}
+use mathlib.Core.Option.{Option, none, some}
 use Prim.Native.Nat.{ℕ, zero, suc, _≤_}
 use native.Mathlib.Omega.{arith}
 use lib.ListN.{length, take}
 use Rattle.station_model.specs.declared.Event.{Event}
-use Rattle.station_model.specs.Station.{taken}
+use Rattle.station_model.specs.Station.{number, taken}
 use Rattle.station_model.specs.Station as Model
 use Rattle.station.specs.declared.Station.{Station}
 use Rattle.station.specs.declared.Outcome.{Outcome}
 use Rattle.station.specs.View.{outcome, view}
+use Rattle.station.specs.Parts.{Next, Solid, Steady}
 use Rattle.station.proofs.Sounding.{solid-sound}
 use Rattle.plain_station.specs.declared.PlainStation.{PlainStation}
 use Rattle.plain_station.specs.Plain.{plainStation, stationOf}
@@ -19,7 +20,7 @@ use Rattle.hullathan.specs.declared.PlainAnswer.{PlainAnswer}
 use Rattle.hullathan.specs.declared.Called.{Called}
 use Rattle.hullathan.specs.Host.{Answers, Neat, asked, barred, good, meant, rowOf}
 use Rattle.hullathan.specs.Parts.{Handed, Means, Told, Turns}
-use Rattle.hullathan.proofs.Asking.{asked-sorts}
+use Rattle.hullathan.proofs.Asking.{asked-sorts, turns-next}
 use Rattle.hullathan.proofs.Forms.{form-means}
 
 taken-few : {A : Type 0} (l : List A) (n : ℕ) → length (take n l) ≤ n
@@ -41,6 +42,19 @@ turn-few s e o h =
 pub told-as : (s : Station) (e q : Option Event) (o : Outcome) (r : PlainAnswer) → q ≡ e → Turns s q o → r ≡ rowOf (outcome o) → Told s e (o .station) r
 told-as s e q o r k h f = subst (λ (z : Option Event). Told s z (o .station) r) k (record { solid = h .solid; state = ap (λ (m : Model.Outcome). m .station) (h .is); row = f ∙ ap rowOf (h .is); few = turn-few s q o h })
 
+-- an event of the loop that goes the short ways
+pub next-fits : (s : Station) (v : Event) (o : Outcome) → Steady s → Next s v o → ((number (o .answer .code) ≤ 12) × (o .answer .«left_len» ≤ 9)) × Solid (o .station)
+next-fits s v o h n = let t = turns-next s v o h n in ((t .small, t .few), t .solid)
+
+pub next-told : (s : Station) (v : Event) (e : Option Event) (o : Outcome) (r : PlainAnswer) → Steady s → some v ≡ e → Next s v o → r ≡ rowOf (outcome o) → Steady (o .station) × Told s e (o .station) r
+next-told s v e o r h k n f = (n .steady, told-as s e (some v) o r k (turns-next s v o h n) f)
+
+-- one that no event has: the station stays
+pub none-told : (s : Station) (e : Option Event) (r : PlainAnswer) → Steady s → none ≡ e → r ≡ rowOf (asked (view s) none) → Steady s × Told s e s r
+unfolding asked
+none-told s e r h k f =
+    (h, subst (λ (z : Option Event). Told s z s r) k (record { solid = h .solid; state = refl; row = f; few = omega arith }))
+
 -- ---- a call on a sound station
 pub handed : (p : PlainStation) (s : Station) (e : Option Event) (o : Outcome) (r : PlainAnswer) (q : PlainStation) → Turns s e o → r ≡ rowOf (outcome o)
     → q ≡ cond (taken (o .answer .code)) (plainStation (o .station)) p → Handed p s e (record { station = q; answer = r })
@@ -52,6 +66,19 @@ handed p s e o r q h f g =
       kept = λ z. g ∙ rw (code ∙ z);
       went = λ z. form-means (o .station) q _ (g ∙ rw (code ∙ z)) (ap (λ (m : Model.Outcome). m .station) (h .is)) (solid-sound (o .station) (h .solid));
     }
+
+-- what was found after a turn
+abbrev pub Finds : PlainStation → Outcome → Called → Type 0
+Finds p o r = (r .answer ≡ rowOf (outcome o)) × (r .station ≡ cond (taken (o .answer .code)) (plainStation (o .station)) p)
+
+pub turn-fits : (s : Station) (e : Option Event) (o : Outcome) → Turns s e o → ((number (o .answer .code) ≤ 12) × (o .answer .«left_len» ≤ 9)) × Solid (o .station)
+turn-fits s e o t = ((t .small, t .few), t .solid)
+
+pub turn-handed : (p : PlainStation) (s : Station) (e : Option Event) (o : Outcome) (r : Called) → Turns s e o → Finds p o r → Handed p s e r
+turn-handed p s e o r t f = handed p s e o (r .answer) (r .station) t (f .0) (f .1)
+
+pub quick-handed : (p : PlainStation) (s : Station) (v : Event) (o : Outcome) (r : Called) → Steady s → Next s v o → Finds p o r → Handed p s (some v) r
+quick-handed p s v o r h n f = turn-handed p s (some v) o r (turns-next s v o h n) f
 
 -- ---- a form that is a sound station's
 module _ (p : PlainStation) (e : Option Event) (r : Called) (i : good p ≡ true) (h : Handed p (stationOf p) e r) where

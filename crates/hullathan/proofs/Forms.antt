@@ -27,8 +27,5 @@ form-means s q m e v h = record {
 }
 
 -- a form is good where it is a station's, and the station is sound
-pub good-of : (p : PlainStation) (s : Station) (b : Bool) → isStation p ≡ true → s ≡ stationOf p → b ≡ sound standard s → b ≡ good p
-good-of p s b i e h = h ∙ ap (sound standard) e ∙ rw i
-
-pub bad-of : (p : PlainStation) (b : Bool) → b ≡ isStation p → b ≡ false → b ≡ good p
-bad-of p b e z = z ∙ rw (sym e ∙ z)
+pub good-is : (p : PlainStation) (s : Station) (b : Bool) → b ≡ (isStation p && sound standard s) → s ≡ stationOf p → b ≡ good p
+good-is p s b e f = e ∙ ap (λ (z : Station). isStation p && sound standard z) f

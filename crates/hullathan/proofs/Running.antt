@@ -3,7 +3,7 @@ use mathlib.Core.Path.{_≡_, refl, ap, sym, _∙_, subst}
 use mathlib.Core.Bool.{Bool, true, false, true≢false, _&&_}
 use mathlib.Core.List.{List, [], _∷_, _++_, map}
 use mathlib.Core.Option.{Option}
-use Prim.Native.Nat.{ℕ, zero, suc, _+_, _≤_, _<_}
+use Prim.Native.Nat.{ℕ, zero, suc, _+_, _*_, _^_, _≤_, _<_}
 use native.Mathlib.Numerals.{add-one}
 use native.Mathlib.Omega.{arith}
 use borrow.Author.Tests.{le-leb, lt-leb}
@@ -67,6 +67,10 @@ over-snoc [] (y ∷ old) x h = refl
 over-snoc (z ∷ l) [] x h = absurd (omega arith)
 over-snoc (z ∷ l) (y ∷ old) x h = ap (λ r. z ∷ r) (over-snoc l old x (omega arith))
 
+-- where a place of the answers lies
+pub place-fits : (j n : ℕ) → j < n → n ≤ 64 → j * 184 < 2 ^ 64
+place-fits j n h k = omega arith
+
 -- ---- the loop: the first i events are answered
 module _ (s : Station) (b : PlainBatch) (n : ℕ) where
   abbrev pub firstEvents : ℕ → Events
@@ -125,15 +129,15 @@ module _ (s : Station) (b : PlainBatch) (n : ℕ) where
         few = subst Few (sym made) (few-snoc _ _ (v .few) (subst (λ (y : Model.Station). length (asked y e .answer .departures) ≤ 9) (v .state) (w .few)));
       }
 
-  pub run-ends : (c : Station) (out : PlainBatch) (i : ℕ) (q : PlainStation) → n ≤ i → Running c out i → q ≡ plainStation c → Along s b n (record { code = 0; station = q; batch = out })
-  run-ends c out i q h v e =
+  pub run-ends : (c : Station) (out : PlainBatch) (i : ℕ) (r : Ran) → n ≤ i → Running c out i → (r .code ≡ 0) × ((r .station ≡ plainStation c) × (r .batch ≡ out)) → Along s b n r
+  run-ends c out i r h v e =
       let k = v .upto in
       let j : i ≡ n = omega arith in
       record {
-        done = refl;
-        told = v .told ∙ ap (λ (m : ℕ). withAnswers b (firstRows m)) j;
+        done = e .0;
+        told = e .1 .1 ∙ v .told ∙ ap (λ (m : ℕ). withAnswers b (firstRows m)) j;
         few = subst (λ (m : ℕ). Few (outcomes (view s) (firstEvents m))) j (v .few);
-        means = form-means c q _ e (v .state ∙ ap (λ (m : ℕ). after (view s) (firstEvents m)) j) (solid-sound c (v .solid));
+        means = form-means c (r .station) _ (e .1 .0) (v .state ∙ ap (λ (m : ℕ). after (view s) (firstEvents m)) j) (solid-sound c (v .solid));
       }
 
 -- ---- a batch on a form

@@ -5,15 +5,25 @@ use crate::PlainEvent;
 use crate::Ran;
 use crate::event::Asked;
 use crate::event::event_of;
-use crate::inner::opened;
+use crate::inner::formless_row;
+use crate::inner::is_good;
 use crate::inner::row;
 use crate::inner::turn;
 use plain_station::PlainStation;
+use plain_station::from::station_from;
 use plain_station::to::plain_station;
 use station::Station;
+use station::inner::call::next;
+use station::inner::pace::Way;
+use station::inner::pace::beat;
+use station::inner::pace::idle;
+use station::inner::pace::space;
+use station::inner::pace::way_of;
+use station::inner::refusals::is_chosen;
 ghost use mathlib.Core.Path.{_≡_};
 ghost use Prim.Native.Nat.{_≤_};
-ghost use Rattle.station.specs.Parts.{Solid};
+ghost use Rattle.station.specs.Parts.{Solid, Steady};
+ghost use Rattle.plain_station.specs.Plain.{plainStation};
 ghost use Rattle.hullathan.specs.Host.{Runs, ofEvent};
 ghost use Rattle.hullathan.specs.Parts.{Along, Told, ofAsked};
 
@@ -35,8 +45,20 @@ pub(crate) fn one_event(s: Station, e: PlainEvent) -> Step
     Step { station, answer }
 }
 
+// A batch that was run: the station after it, and the batch with its answers.
+pub(crate) fn run_of(s: Station, batch: PlainBatch) -> Ran
+    ensures { λ r. ⌜ (r .code ≡ 0) × ((r .station ≡ plainStation s) × (r .batch ≡ batch)) ⌝ }
+{
+    let station = plain_station(s);
+    Ran {
+        code: 0,
+        station,
+        batch,
+    }
+}
+
 // The first n events of a batch, on a sound station.
-pub(crate) fn along(s: Station, b: PlainBatch, n: usize) -> Ran
+pub(crate) fn along_any(s: Station, b: PlainBatch, n: usize) -> Ran
     requires { ⌜ Solid s × (n ≤ 64) ⌝ }
     ensures { λ r. ⌜ Along s b n r ⌝ }
 {
@@ -51,12 +73,62 @@ pub(crate) fn along(s: Station, b: PlainBatch, n: usize) -> Ran
         out.answers[i] = answer;
         i += 1;
     }
-    let station = plain_station(c);
-    Ran {
-        code: 0,
-        station,
-        batch: out,
+    run_of(c, out)
+}
+
+// The same, where no choice stands beside an unready primary: the loop holds the station in one place, and the short ways copy little of it.
+pub(crate) fn along(s: Station, b: PlainBatch, n: usize) -> Ran
+    requires { ⌜ Steady s × (n ≤ 64) ⌝ }
+    ensures { λ r. ⌜ Along s b n r ⌝ }
+{
+    let mut c = s;
+    let mut out = b;
+    let mut i: usize = 0;
+    while i < n {
+        let j = i;
+        i += 1;
+        let e = b.events[j];
+        let a = event_of(e.kind, e.live, e.value);
+        let Asked::Is(v) = a else {
+            out.answers[j] = formless_row(c);
+            continue;
+        };
+        let w = way_of(c, v);
+        match w {
+            Way::Idle => {
+                let o = idle(c, v);
+                out.answers[j] = row(o);
+                c = o.station;
+            }
+            Way::Beat(d) => {
+                let o = beat(c, v, d);
+                out.answers[j] = row(o);
+                c = o.station;
+            }
+            Way::Space(d) => {
+                let o = space(c, v, d);
+                out.answers[j] = row(o);
+                c = o.station;
+            }
+            Way::Other => {
+                let o = next(c, v);
+                out.answers[j] = row(o);
+                c = o.station;
+            }
+        }
     }
+    run_of(c, out)
+}
+
+// The first n events of a batch, on a sound station, by the quicker loop where that is allowed.
+pub(crate) fn run_on(s: Station, b: PlainBatch, n: usize) -> Ran
+    requires { ⌜ Solid s × (n ≤ 64) ⌝ }
+    ensures { λ r. ⌜ Along s b n r ⌝ }
+{
+    if is_chosen(s) {
+        return along(s, b, n);
+    }
+    along_any(s, b, n)
 }
 
 // A batch: refused by 1 where there is no sound station, or the count is above its capacity.
@@ -65,10 +137,9 @@ pub fn ran(p: PlainStation, b: PlainBatch) -> Ran
 {
     let n = b.len;
     if n <= 64 {
-        let u = opened(p);
-        if u.is {
-            let s = u.station;
-            return along(s, b, n);
+        let s = station_from(p);
+        if is_good(p, s) {
+            return run_on(s, b, n);
         }
     }
     Ran {

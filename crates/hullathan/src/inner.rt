@@ -4,46 +4,34 @@ use crate::event::Asked;
 use crate::event::code_number;
 use plain::to::plain_departures;
 use plain_station::PlainStation;
-use plain_station::Unplain;
-use plain_station::from::station_of;
+use plain_station::from::is_station;
 use station::Outcome;
 use station::Station;
 use station::inner::call::call;
-use station::inner::call::next;
-use station::inner::pace::Way;
-use station::inner::pace::beat;
-use station::inner::pace::idle;
-use station::inner::pace::space;
-use station::inner::pace::way_of;
-use station::inner::refusals::is_chosen;
 use station::inner::refusals::is_full;
 use station::inner::refusals::refuse;
 use station::inner::sound::is_sound;
-use station_model::Event;
 ghost use mathlib.Core.Path.{_≡_};
-ghost use mathlib.Core.Bool.{true, cond};
-ghost use mathlib.Core.Option.{some};
+ghost use mathlib.Core.Bool.{true, cond, _&&_};
+ghost use mathlib.Core.Option.{none};
 ghost use Prim.Native.Nat.{_≤_};
 ghost use Rattle.station_model.specs.Station.{full, number};
 ghost use Rattle.station.specs.View.{outcome, view};
-ghost use Rattle.station.specs.Parts.{Next, Solid, Steady};
-ghost use Rattle.plain_station.specs.Plain.{stationOf};
-ghost use Rattle.hullathan.specs.Host.{asked, good, rowOf};
+ghost use Rattle.station.specs.Parts.{Solid};
+ghost use Rattle.ranges.specs.Settings.{standard};
+ghost use Rattle.station.specs.Sound.{sound};
+ghost use Rattle.plain_station.specs.Plain.{isStation};
+ghost use Rattle.hullathan.specs.Host.{asked, rowOf};
 ghost use Rattle.hullathan.specs.Parts.{Turns, ofAsked};
 
-// The station in a host's memory, and whether it is a sound one.
-pub fn opened(p: PlainStation) -> Unplain
-    ensures { λ r. ⌜ (r .is ≡ good p) × ((r .station ≡ stationOf p) × (r .is ≡ true → Solid (r .station))) ⌝ }
+// Whether the memory p holds a sound station, s.
+pub fn is_good(p: PlainStation, s: Station) -> bool
+    ensures { λ r. ⌜ (r ≡ isStation p && sound standard s) × (r ≡ true → Solid s) ⌝ }
 {
-    let u = station_of(p);
-    if u.is {
-        let s = u.station;
-        return Unplain {
-            is: is_sound(s),
-            station: s,
-        };
+    if is_station(p) {
+        return is_sound(s);
     }
-    u
+    false
 }
 
 // The refusal of a call that no event has: 2, or 12.
@@ -53,38 +41,13 @@ pub(crate) fn formless(s: Station) -> u8
     if is_full(s) { 2 } else { 12 }
 }
 
-// An event on a station with no choice beside an unready primary: the short ways copy little of it.
-pub(crate) fn quick(s: Station, e: Event) -> Outcome
-    requires { ⌜ Steady s ⌝ }
-    ensures { λ r. ⌜ Next s e r ⌝ }
-{
-    let w = way_of(s, e);
-    match w {
-        Way::Idle => idle(s, e),
-        Way::Beat(d) => beat(s, e, d),
-        Way::Space(d) => space(s, e, d),
-        Way::Other => next(s, e),
-    }
-}
-
-// An event.
-pub(crate) fn event_on(s: Station, e: Event) -> Outcome
-    requires { ⌜ Solid s ⌝ }
-    ensures { λ r. ⌜ Turns s (some e) r ⌝ }
-{
-    if is_chosen(s) {
-        return quick(s, e);
-    }
-    call(s, e)
-}
-
 // One call.
 pub fn turn(s: Station, a: Asked) -> Outcome
     requires { ⌜ Solid s ⌝ }
     ensures { λ r. ⌜ Turns s (ofAsked a) r ⌝ }
 {
     match a {
-        Asked::Is(e) => event_on(s, e),
+        Asked::Is(e) => call(s, e),
         Asked::Unknown => refuse(s, formless(s)),
     }
 }
@@ -109,4 +72,12 @@ pub fn row(o: Outcome) -> PlainAnswer
         left,
         left_len: a.left_len,
     }
+}
+
+// The answer where no event has the kind.
+pub(crate) fn formless_row(s: Station) -> PlainAnswer
+    requires { ⌜ Solid s ⌝ }
+    ensures { λ r. ⌜ r ≡ rowOf (asked (view s) none) ⌝ }
+{
+    row(refuse(s, formless(s)))
 }

@@ -1,8 +1,9 @@
 // What a display and a log need of the station in a host's memory.
 use crate::PlainReading;
 use crate::PlainRival;
-use crate::inner::opened;
+use crate::inner::is_good;
 use plain_station::PlainStation;
+use plain_station::from::station_from;
 use plain_tracker::to::number_of;
 use rival::TimingHypothesis;
 use station::Station;
@@ -140,9 +141,8 @@ pub(crate) fn no_reading() -> PlainReading
 pub fn reading(p: PlainStation) -> PlainReading
     ensures { λ r. ⌜ r ≡ reads p ⌝ }
 {
-    let u = opened(p);
-    if u.is {
-        let s = u.station;
+    let s = station_from(p);
+    if is_good(p, s) {
         return read_of(s);
     }
     no_reading()

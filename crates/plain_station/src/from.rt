@@ -1,6 +1,5 @@
 // From a plain form to its station.
 use crate::PlainStation;
-use crate::Unplain;
 use plain::from::bank_from;
 use plain::is::is_bank;
 use plain_tracker::from::tracker_of;
@@ -12,7 +11,7 @@ ghost use mathlib.Core.Path.{_≡_};
 ghost use Rattle.plain_station.specs.Plain.{isStation, stationOf};
 
 // Whether a plain form is a station's.
-pub(crate) fn is_station(p: PlainStation) -> bool
+pub fn is_station(p: PlainStation) -> bool
     ensures { λ r. ⌜ r ≡ isStation p ⌝ }
 {
     let t = p.primary;
@@ -21,7 +20,7 @@ pub(crate) fn is_station(p: PlainStation) -> bool
 }
 
 // The station of a plain form.
-pub(crate) fn station_from(p: PlainStation) -> Station
+pub fn station_from(p: PlainStation) -> Station
     ensures { λ r. ⌜ r ≡ stationOf p ⌝ }
 {
     let t = p.primary;
@@ -41,16 +40,5 @@ pub(crate) fn station_from(p: PlainStation) -> Station
         bank,
         counts,
         accepted: p.accepted,
-    }
-}
-
-// The station of a plain form, and whether it is one.
-pub fn station_of(p: PlainStation) -> Unplain
-    ensures { λ r. ⌜ (r .is ≡ isStation p) × (r .station ≡ stationOf p) ⌝ }
-{
-    let station = station_from(p);
-    Unplain {
-        is: is_station(p),
-        station,
     }
 }

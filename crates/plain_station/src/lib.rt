@@ -1,7 +1,6 @@
 // A station with numbers in place of enums and flags, as a host in C or Rust holds it, and the way there and back.
 use plain::PlainBank;
 use plain_tracker::PlainTracker;
-use station::Station;
 
 pub mod from;
 pub mod to;
@@ -18,10 +17,4 @@ pub struct PlainStation {
     pub replaced: u64,
     pub cleared: u64,
     pub accepted: u64,
-}
-
-// The station of a plain form, where it is one.
-pub struct Unplain {
-    pub is: bool,
-    pub station: Station,
 }
