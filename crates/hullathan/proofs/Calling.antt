@@ -77,9 +77,6 @@ turn-fits s e o t = ((t .small, t .few), t .solid)
 pub turn-handed : (p : PlainStation) (s : Station) (e : Option Event) (o : Outcome) (r : Called) → Turns s e o → Finds p o r → Handed p s e r
 turn-handed p s e o r t f = handed p s e o (r .answer) (r .station) t (f .0) (f .1)
 
-pub quick-handed : (p : PlainStation) (s : Station) (v : Event) (o : Outcome) (r : Called) → Steady s → Next s v o → Finds p o r → Handed p s (some v) r
-quick-handed p s v o r h n f = turn-handed p s (some v) o r (turns-next s v o h n) f
-
 -- ---- a form that is a sound station's
 module _ (p : PlainStation) (e : Option Event) (r : Called) (i : good p ≡ true) (h : Handed p (stationOf p) e r) where
   abbrev After : Type 0

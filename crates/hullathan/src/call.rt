@@ -3,33 +3,22 @@ use crate::Called;
 use crate::PlainAnswer;
 use crate::event::Asked;
 use crate::event::event_of;
-use crate::inner::formless;
 use crate::inner::is_good;
 use crate::inner::row;
+use crate::inner::turn;
 use plain::to::no_departure;
 use plain_station::PlainStation;
 use plain_station::from::station_from;
 use plain_station::to::plain_station;
 use station::Outcome;
 use station::Station;
-use station::inner::call::call;
-use station::inner::call::next;
-use station::inner::pace::Way;
-use station::inner::pace::beat;
-use station::inner::pace::idle;
-use station::inner::pace::space;
-use station::inner::pace::way_of;
-use station::inner::refusals::is_chosen;
-use station::inner::refusals::refuse;
 use station_model::Code;
-use station_model::Event;
 ghost use mathlib.Core.Path.{_≡_};
 ghost use mathlib.Core.Bool.{cond};
-ghost use mathlib.Core.Option.{some};
 ghost use Prim.Native.Nat.{_≤_};
 ghost use Rattle.station_model.specs.Station.{number, taken};
 ghost use Rattle.station.specs.View.{outcome};
-ghost use Rattle.station.specs.Parts.{Solid, Steady};
+ghost use Rattle.station.specs.Parts.{Solid};
 ghost use Rattle.plain_station.specs.Plain.{plainStation};
 ghost use Rattle.hullathan.specs.Host.{Answers, barred, eventOf, rowOf};
 ghost use Rattle.hullathan.specs.Parts.{Handed, ofAsked};
@@ -88,35 +77,12 @@ pub(crate) fn found(p: PlainStation, o: Outcome) -> Called
     Called { station, answer }
 }
 
-// An event on the sound station s, whose form is p, with no choice beside an unready primary: the short ways copy little of it.
-pub(crate) fn heard_quick(p: PlainStation, s: Station, e: Event) -> Called
-    requires { ⌜ Steady s ⌝ }
-    ensures { λ r. ⌜ Handed p s (some e) r ⌝ }
-{
-    let w = way_of(s, e);
-    match w {
-        Way::Idle => found(p, idle(s, e)),
-        Way::Beat(d) => found(p, beat(s, e, d)),
-        Way::Space(d) => found(p, space(s, e, d)),
-        Way::Other => found(p, next(s, e)),
-    }
-}
-
 // A call on the sound station s, whose form is p.
 pub(crate) fn heard(p: PlainStation, s: Station, a: Asked) -> Called
     requires { ⌜ Solid s ⌝ }
     ensures { λ r. ⌜ Handed p s (ofAsked a) r ⌝ }
 {
-    match a {
-        Asked::Is(e) => {
-            if is_chosen(s) {
-                heard_quick(p, s, e)
-            } else {
-                found(p, call(s, e))
-            }
-        }
-        Asked::Unknown => found(p, refuse(s, formless(s))),
-    }
+    found(p, turn(s, a))
 }
 
 // One call: the kind of the event, whether it is live, and its number.
