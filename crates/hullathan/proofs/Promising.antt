@@ -28,10 +28,13 @@ use Rattle.plain.specs.declared.PlainDeparture.{PlainDeparture}
 use Rattle.plain.specs.Plain.{causeCode, plainDeparture}
 use Rattle.plain_station.specs.declared.PlainStation.{PlainStation}
 use Rattle.hullathan.specs.declared.PlainAnswer.{PlainAnswer}
+use Rattle.hullathan.specs.declared.PlainBatch.{PlainBatch}
 use Rattle.hullathan.specs.declared.PlainEvent.{PlainEvent}
-use Rattle.hullathan.specs.Host.{Few, after, asked, choiceSound, chosen, codeNumber, eventOf, good, meant, ofEvent, outcomes, padded, rowOf}
+use Rattle.hullathan.specs.Host.{Answers, Few, after, asked, choiceSound, chosen, codeNumber, eventOf, good, meant, ofEvent, outcomes, over, padded, rowOf, runnable}
 use Rattle.hullathan.proofs.Asking.{quiet-choice}
-use Rattle.hullathan.specs.Promise.{AllFit, Promised, Turn, Turned, TurnedFrom, addCall, answerOf, callsIn, callsOn, causeOf, codeOf, departureOf}
+use Rattle.hullathan.proofs.Rows.{left-long, map-long}
+use Rattle.hullathan.proofs.Running.{outcomes-long, runnable-few}
+use Rattle.hullathan.specs.Promise.{AllFit, Batched, Did, Promised, Turn, TurnedFrom, addCall, answerOf, answersOf, batch, before, call, callsIn, callsOn, causeOf, codeOf, departureOf, eventsOf, left}
 
 -- ---- numbers, read back
 
@@ -117,7 +120,7 @@ ranOn m (e ∷ es) (r ∷ rs) earlier = ranOn (asked m (ofEvent e) .station) es 
 
 ranIn : List Turn → Runs
 ranIn [] = []
-ranIn (t ∷ earlier) = ranOn (meant (t .before)) (t .events) (t .answers) (ranIn earlier)
+ranIn (t ∷ earlier) = ranOn (meant (before t)) (eventsOf t) (answersOf t) (ranIn earlier)
 
 abbrev as-call : Ran Model.Station Returned → Call
 as-call c = record { event = c .event; answer = answered (c .returned); before = c .before; after = c .returned .after }
@@ -136,7 +139,7 @@ on-viewed m (e ∷ es) (r ∷ rs) l =
 in-viewed : (turns : List Turn) → map as-call (ranIn turns) ≡ callsIn turns
 unfolding ranIn callsIn
 in-viewed [] = refl
-in-viewed (t ∷ earlier) = on-viewed (meant (t .before)) (t .events) (t .answers) (ranIn earlier) ∙ ap (callsOn (meant (t .before)) (t .events) (t .answers)) (in-viewed earlier)
+in-viewed (t ∷ earlier) = on-viewed (meant (before t)) (eventsOf t) (answersOf t) (ranIn earlier) ∙ ap (callsOn (meant (before t)) (eventsOf t) (answersOf t)) (in-viewed earlier)
 
 -- the event carries the number that was given, if it has one
 abbrev CarriesAny : Option Event → Type 0
@@ -168,30 +171,91 @@ on-from start m (e ∷ es) l c f t =
     on-from start (asked m (ofEvent e) .station) es (addRun (ofEvent e) (rowOf (asked m (ofEvent e))) m l) (c .1) (f .1)
     (add-from start (ofEvent e) m l (carries-any (e .kind) (e .live) (e .value) (c .0)) (f .0) t)
 
+-- ---- a turn: what its contract says, event by event
+
+record Turned (p : PlainStation) (es : List PlainEvent) (rs : List PlainAnswer) (q : PlainStation) : Type 0 where
+  pub fit : AllFit es
+  pub told : rs ≡ map rowOf (outcomes (meant p) (map ofEvent es))
+  pub few : Few (outcomes (meant p) (map ofEvent es))
+  pub state : meant q ≡ after (meant p) (map ofEvent es)
+  pub still : good q ≡ true
+
+call-turned : (p : PlainStation) (e : PlainEvent) (r : PlainAnswer) (q : PlainStation) → good p ≡ true → T (fits binary32 (e .value)) × Answers (ofEvent e) p r q → Turned p (e ∷ []) (r ∷ []) q
+unfolding outcomes after AllFit Few
+call-turned p e r q h a = record { fit = (a .0, tt); told = ap (λ (x : PlainAnswer). x ∷ []) (a .1 .told h); few = (a .1 .few h, tt); state = a .1 .state h; still = a .1 .still h }
+
+fit-taken : (n : ℕ) (l : List PlainEvent) → AllFit l → AllFit (take n l)
+unfolding AllFit
+fit-taken zero l f = tt
+fit-taken (suc n) [] f = tt
+fit-taken (suc n) (e ∷ l) f = (f .0, fit-taken n l (f .1))
+
+-- the answers that a batch holds then are the ones that were put
+take-over : {A : Type 0} (l old : List A) (n : ℕ) → length l ≡ n → n ≤ length old → take n (over l old) ≡ l
+unfolding over
+take-over [] old zero h k = refl
+take-over [] old (suc n) h k = absurd (omega arith)
+take-over (x ∷ l) old zero h k = absurd (omega arith)
+take-over (x ∷ l) [] (suc n) h k = absurd (omega arith)
+take-over (x ∷ l) (y ∷ old) (suc n) h k = ap (λ r. x ∷ r) (take-over l old n (omega arith) (omega arith))
+
+module _ (p : PlainStation) (b : PlainBatch) (code : ℕ) (q : PlainStation) (c : PlainBatch) (h : good p ≡ true) (d : Batched p b code q c) where
+  ran-turned : runnable p b ≡ true → b .len ≤ 64 → Turned p (take (b .len) (b .events)) (take (b .len) (c .answers)) q
+  ran-turned i k =
+      let rows = map rowOf (outcomes (meant p) (map ofEvent (take (b .len) (b .events)))) in
+      let e = d .events in
+      let a = d .answers in
+      let long : length rows ≡ b .len =
+      map-long rowOf (outcomes (meant p) (map ofEvent (take (b .len) (b .events)))) ∙ outcomes-long (meant p) (map ofEvent (take (b .len) (b .events)))
+      ∙ map-long ofEvent (take (b .len) (b .events)) ∙ left-long (b .events) (b .len) (omega arith) in
+      record {
+        fit = fit-taken (b .len) (b .events) (d .fit);
+        told = ap (λ (z : PlainBatch). take (b .len) (z .answers)) (d .runs .told i) ∙ take-over rows (b .answers) (b .len) long (omega arith);
+        few = d .runs .few i;
+        state = d .runs .state i;
+        still = d .runs .still i;
+      }
+
+  none-turned : runnable p b ≡ false → Turned p [] [] q
+  unfolding outcomes after AllFit Few
+  none-turned i =
+      let u = d .runs .unsound i .1 in
+      record { fit = tt; told = refl; few = tt; state = ap meant u; still = ap good u ∙ h }
+
+  batch-turned : Turned p (eventsOf (batch p b code q c)) (answersOf (batch p b code q c)) q
+  batch-turned = go (runnable p b) refl
+    where
+      go : (r : Bool) → runnable p b ≡ r → Turned p (cond r (take (b .len) (b .events)) []) (cond r (take (b .len) (c .answers)) []) q
+      go true i = ran-turned i (runnable-few p b i)
+      go false i = none-turned i
+
+turn-turned : (t : Turn) → good (before t) ≡ true → Did t → Turned (before t) (eventsOf t) (answersOf t) (left t)
+turn-turned (call p e r q) h d = call-turned p e r q h d
+turn-turned (batch p b code q c) h d = batch-turned p b code q c h d
+
 -- ---- a list of turns
 
 record Trail (first : PlainStation) (turns : List Turn) (now : PlainStation) : Type 0 where
   pub sound : good now ≡ true
   pub from : From (meant first) (ranIn turns) (meant now)
 
-turn-trail : (first : PlainStation) (t : Turn) (l : Runs) → AllFit (t .events) → Turned t → From (meant first) l (meant (t .before)) → From (meant first) (ranOn (meant (t .before)) (t .events) (t .answers) l) (meant (t .now))
-turn-trail first t l c h f =
-    let m = meant (t .before) in
-    let es = map ofEvent (t .events) in
-    subst (λ (z : Model.Station). From (meant first) (ranOn m (t .events) (t .answers) l) z) (sym (h .state))
-    (subst (λ (rs : List PlainAnswer). From (meant first) (ranOn m (t .events) rs l) (after m es)) (sym (h .told)) (on-from (meant first) m (t .events) l c (h .few) f))
+turn-trail : (first p : PlainStation) (es : List PlainEvent) (rs : List PlainAnswer) (q : PlainStation) (l : Runs) → Turned p es rs q → From (meant first) l (meant p) → From (meant first) (ranOn (meant p) es rs l) (meant q)
+turn-trail first p es rs q l h f =
+    let m = meant p in
+    subst (λ (z : Model.Station). From (meant first) (ranOn m es rs l) z) (sym (h .state))
+    (subst (λ (xs : List PlainAnswer). From (meant first) (ranOn m es xs l) (after m (map ofEvent es))) (sym (h .told)) (on-from (meant first) m es l (h .fit) (h .few) f))
 
 trail : (first : PlainStation) → good first ≡ true → (turns : List Turn) (now : PlainStation) → TurnedFrom first turns now → Trail first turns now
 unfolding TurnedFrom RanFrom ranIn
 trail first h [] now t = record { sound = ap good t ∙ h; from = ap meant t }
-trail first h (u ∷ turns) now t = go (trail first h turns (u .before) (t .0))
+trail first h (u ∷ turns) now t = go (trail first h turns (before u) (t .0))
   where
-    go : Trail first turns (u .before) → Trail first (u ∷ turns) now
+    go : Trail first turns (before u) → Trail first (u ∷ turns) now
     go r =
-        let w = t .1 .1 (r .sound) in
+        let w = turn-turned u (r .sound) (t .1) in
         record {
           sound = ap good (t .2) ∙ w .still;
-          from = subst (λ (z : PlainStation). From (meant first) (ranIn (u ∷ turns)) (meant z)) (sym (t .2)) (turn-trail first u (ranIn turns) (t .1 .0) w (r .from));
+          from = subst (λ (z : PlainStation). From (meant first) (ranIn (u ∷ turns)) (meant z)) (sym (t .2)) (turn-trail first (before u) (eventsOf u) (answersOf u) (left u) (ranIn turns) w (r .from));
         }
 
 -- ---- demand 3

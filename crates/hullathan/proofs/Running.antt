@@ -6,6 +6,8 @@ use mathlib.Core.Option.{Option}
 use Prim.Native.Nat.{ℕ, zero, suc, _+_, _*_, _^_, _≤_, _<_}
 use native.Mathlib.Numerals.{add-one}
 use native.Mathlib.Omega.{arith}
+use native.Mathlib.Decide.{decLe}
+use native.Mathlib.Nat.{lt-of-not-le}
 use borrow.Author.Tests.{le-leb, lt-leb}
 use lib.Dec.{leb}
 use lib.ListN.{length, take, getD, set}
@@ -25,7 +27,7 @@ use Rattle.hullathan.specs.declared.Ran.{Ran}
 use Rattle.hullathan.specs.Host.{Few, Runs, after, asked, good, meant, ofEvent, outcomes, over, rowOf, runnable, withAnswers}
 use Rattle.hullathan.specs.Parts.{Along, Means, Told}
 use Rattle.hullathan.proofs.Forms.{form-means}
-use Rattle.hullathan.proofs.Rows.{left-long}
+use Rattle.hullathan.proofs.Rows.{left-long, map-long}
 
 -- ---- one event more
 
@@ -42,14 +44,10 @@ unfolding after outcomes
 outcomes-snoc m [] e = refl
 outcomes-snoc m (d ∷ l) e = ap (λ (r : List Model.Outcome). asked m d ∷ r) (outcomes-snoc (asked m d .station) l e)
 
-outcomes-long : (m : Model.Station) (l : Events) → length (outcomes m l) ≡ length l
+pub outcomes-long : (m : Model.Station) (l : Events) → length (outcomes m l) ≡ length l
 unfolding outcomes
 outcomes-long m [] = refl
 outcomes-long m (e ∷ l) = ap suc (outcomes-long (asked m e .station) l)
-
-map-long : {A B : Type 0} (f : A → B) (l : List A) → length (map f l) ≡ length l
-map-long f [] = refl
-map-long f (x ∷ l) = ap suc (map-long f l)
 
 map-snoc : {A B : Type 0} (f : A → B) (l : List A) (x : A) → map f (l ++ (x ∷ [])) ≡ map f l ++ (f x ∷ [])
 map-snoc f [] x = refl
@@ -178,3 +176,10 @@ not-sound p b i = go (leb (b .len) 64)
 
 pub not-few : (p : PlainStation) (b : PlainBatch) → 64 < b .len → runnable p b ≡ false
 not-few p b h = rw (lt-leb (b .len) 64 h)
+
+pub runnable-few : (p : PlainStation) (b : PlainBatch) → runnable p b ≡ true → b .len ≤ 64
+runnable-few p b i = go (decLe (b .len) 64)
+  where
+    go : Dec (b .len ≤ 64) → b .len ≤ 64
+    go (yes h) = h
+    go (no h) = absurd (true≢false (sym i ∙ not-few p b (lt-of-not-le h)))

@@ -1,15 +1,14 @@
--- Demand 3, of every list of calls and batches that a host makes. Definitions only. Lists of turns and of calls stand with the latest first.
+-- Demand 3, of every list of calls and batches that a host makes. Definitions only. Lists of turns and of calls stand with the latest first, the events of one batch with the first first.
 use mathlib.Core.Path.{_≡_}
 use mathlib.Core.Bool.{Bool, true, cond}
 use mathlib.Core.List.{List, [], _∷_, map}
 use mathlib.Core.Option.{Option, none, some}
 use Prim.Native.Nat.{ℕ, _-_}
 use lib.Dec.{T, eqb, leb}
-use lib.ListN.{take}
+use lib.ListN.{length, take}
 use lib.Ieee.{binary32, fits}
 use Rattle.ranges.specs.Settings.{standard}
 use Rattle.bank.specs.Parts.{widest}
-use Rattle.bank.specs.Answers.{widthRefusal}
 use Rattle.bank_model.specs.declared.Cause.{Cause}
 use Rattle.bank_model.specs.declared.Cause.the-variants.{Twin, Outscored, Aged, Replaced, Cleared}
 use Rattle.bank_model.specs.declared.Departure.{Departure}
@@ -22,7 +21,8 @@ use Rattle.plain.specs.declared.PlainDeparture.{PlainDeparture}
 use Rattle.plain_station.specs.declared.PlainStation.{PlainStation}
 use Rattle.hullathan.specs.declared.PlainEvent.{PlainEvent}
 use Rattle.hullathan.specs.declared.PlainAnswer.{PlainAnswer}
-use Rattle.hullathan.specs.Host.{Few, Neat, after, asked, good, meant, ofEvent, outcomes, rowOf, switches}
+use Rattle.hullathan.specs.declared.PlainBatch.{PlainBatch}
+use Rattle.hullathan.specs.Host.{Answers, Neat, Runs, asked, good, meant, ofEvent, runnable, switches}
 
 -- ---- an answer, read back from its numbers
 
@@ -38,34 +38,53 @@ departureOf d = record { serial = d .serial; cause = causeOf (d .cause) }
 abbrev pub answerOf : PlainAnswer → Model.Answer
 answerOf r = record { code = codeOf (r .code); departures = map departureOf (take (r .«left_len») (r .left)) }
 
--- ---- a turn: the events that were handed in, one or a batch of them, what was answered, and the form before and after
+-- ---- what a host does: one call, or one batch. What stood in its memory before, what it handed in, what it found
 
-pub record Turn : Type 0 where
-  pub before : PlainStation
-  pub events : List PlainEvent
-  pub answers : List PlainAnswer
-  pub now : PlainStation
+pub data Turn : Type 0 where
+  call : (before : PlainStation) (event : PlainEvent) (answer : PlainAnswer) (left : PlainStation) → Turn
+  batch : (before : PlainStation) (given : PlainBatch) (code : ℕ) (left : PlainStation) (found : PlainBatch) → Turn
 
--- what the contracts of `hullathan_call` and `hullathan_run` say of a turn on a sound station
-pub record Turned (t : Turn) : Type 0 where
-  pub told : t .answers ≡ map rowOf (outcomes (meant (t .before)) (map ofEvent (t .events)))
-  pub few : Few (outcomes (meant (t .before)) (map ofEvent (t .events)))
-  pub state : meant (t .now) ≡ after (meant (t .before)) (map ofEvent (t .events))
-  pub still : good (t .now) ≡ true
-
--- each number handed in is a value of f32
+-- each number handed in is a value of f32, as every float in memory is
 unfoldable pub AllFit : List PlainEvent → Type 0
 AllFit [] = Unit {0}
 AllFit (e ∷ l) = T (fits binary32 (e .value)) × AllFit l
 
--- A list of turns, each on the form that the one before left. Of what was answered and left only the contract is known.
+-- What is known of a turn: the contract of `hullathan_call`, or that of `hullathan_run` (and that a batch has 64 places, as its type says).
+pub record Batched (p : PlainStation) (b : PlainBatch) (code : ℕ) (q : PlainStation) (c : PlainBatch) : Type 0 where
+  pub fit : AllFit (b .events)
+  pub events : length (b .events) ≡ 64
+  pub answers : length (b .answers) ≡ 64
+  pub runs : Runs p b code q c
+
+abbrev pub Did : Turn → Type 0
+Did (call p e r q) = T (fits binary32 (e .value)) × Answers (ofEvent e) p r q
+Did (batch p b code q c) = Batched p b code q c
+
+abbrev pub before : Turn → PlainStation
+before (call p e r q) = p
+before (batch p b code q c) = p
+
+abbrev pub left : Turn → PlainStation
+left (call p e r q) = q
+left (batch p b code q c) = q
+
+-- A list of turns, each on the memory that the one before left.
 unfoldable pub TurnedFrom : PlainStation → List Turn → PlainStation → Type 0
 TurnedFrom first [] now = now ≡ first
-TurnedFrom first (t ∷ earlier) now = TurnedFrom first earlier (t .before) × (AllFit (t .events) × (good (t .before) ≡ true → Turned t)) × (now ≡ t .now)
+TurnedFrom first (t ∷ earlier) now = TurnedFrom first earlier (before t) × Did t × (now ≡ left t)
 
 -- ---- the calls in a list of turns
 
--- an event that none is, is passed over: it leaves the station as it was
+-- the events of a turn, the first first, and the answers that the host found to them; a batch that was refused has none
+abbrev pub eventsOf : Turn → List PlainEvent
+eventsOf (call p e r q) = e ∷ []
+eventsOf (batch p b code q c) = cond (runnable p b) (take (b .len) (b .events)) []
+
+abbrev pub answersOf : Turn → List PlainAnswer
+answersOf (call p e r q) = r ∷ []
+answersOf (batch p b code q c) = cond (runnable p b) (take (b .len) (c .answers)) []
+
+-- an event that none is, is passed over: it leaves the station as it was. The stations before and after a call within a batch are those that the definitions give
 abbrev pub addCall : Option Event → PlainAnswer → Model.Station → List Call → List Call
 addCall none r m earlier = earlier
 addCall (some e) r m earlier = record { event = e; answer = answerOf r; before = m; after = asked m (some e) .station } ∷ earlier
@@ -77,14 +96,14 @@ callsOn m (e ∷ es) (r ∷ rs) earlier = callsOn (asked m (ofEvent e) .station)
 
 unfoldable pub callsIn : List Turn → List Call
 callsIn [] = []
-callsIn (t ∷ earlier) = callsOn (meant (t .before)) (t .events) (t .answers) (callsIn earlier)
+callsIn (t ∷ earlier) = callsOn (meant (before t)) (eventsOf t) (answersOf t) (callsIn earlier)
 
--- after every list of turns, the first on this form: demand 3, and the form is a sound station's
+-- after every list of turns, the first on this memory: demand 3, and the memory holds a sound station
 pub record Promised (width : ℕ) (switching : Bool) (first : PlainStation) : Type 0 where
   pub holds : (turns : List Turn) (now : PlainStation) → TurnedFrom first turns now → Watch standard width switching (callsIn turns) (meant now)
   pub stays : (turns : List Turn) (now : PlainStation) → TurnedFrom first turns now → good now ≡ true
 
--- ---- a start: its code, the fresh station that it leaves, and what it promises. "A start refused by 3" leaves one of width 1 that does not switch
+-- ---- a start: its code, the fresh station that it leaves, and what it promises. "number 3 hands back a fresh width 1 state": one that does not switch
 pub record Begins (width switching code : ℕ) (q : PlainStation) : Type 0 where
   pub says : code ≡ cond (leb width widest) 0 131
   pub state : meant q ≡ cond (leb width widest) (Model.fresh width (switches switching)) (Model.fresh 1 (switches 0))
