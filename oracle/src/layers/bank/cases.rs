@@ -540,7 +540,7 @@ pub fn no_flag(random: &mut Random, flags: Vec<&mut Bit>) {
 pub fn limit(random: &mut Random, b: &mut Bank) {
     let i = random.below(8) as u8;
     let rival = usize::from(i % 2);
-    match random.below(18) {
+    match random.below(17) {
         0..=5 => {
             let (part, v) = count_limit(random);
             super::parts::set(b, part, 0, v);
@@ -559,7 +559,6 @@ pub fn limit(random: &mut Random, b: &mut Bank) {
         13 => b.challengers[rival].origin = random.pick(&[2, 3, 255]),
         14 => other_logarithm(random, &mut b.challengers[rival]),
         15 => b.challengers[rival].tracker = Plain::default(),
-        16 => no_flag(random, super::flags(b)),
         _ => tracker::cases::limit(random, &mut b.challengers[rival].tracker),
     }
 }
@@ -594,6 +593,19 @@ pub fn random(random: &mut Random) -> Vec<Call> {
         14..=16 => crowded(random),
         _ => damaged(random),
     }
+}
+
+/// A list as above; in some the bank that is handed in has a number that no flag has, which no script of a replay can spell.
+pub fn with_flags(random: &mut Random) -> Vec<Call> {
+    let mut list = self::random(random);
+    let hand = list.iter_mut().find_map(|c| match c {
+        Call::Hand(b) => Some(b),
+        _ => None,
+    });
+    if let (Some(b), 0) = (hand, random.below(16)) {
+        no_flag(random, super::flags(b));
+    }
+    list
 }
 
 pub fn fixed() -> Vec<Vec<Call>> {

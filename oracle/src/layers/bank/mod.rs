@@ -491,7 +491,7 @@ impl Layer for Banks {
     }
 
     fn random(random: &mut Random) -> Vec<Call> {
-        cases::random(random)
+        cases::with_flags(random)
     }
 
     fn run(case: &Vec<Call>) -> Result<u64, Difference> {
