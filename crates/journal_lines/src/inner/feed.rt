@@ -9,6 +9,11 @@ use crate::inner::gather::gather;
 use line_in::entry_of;
 use line_out::inner::write_line;
 use station::inner::call::next;
+use station::inner::pace::Way;
+use station::inner::pace::beat;
+use station::inner::pace::idle;
+use station::inner::pace::space;
+use station::inner::pace::way_of;
 ghost use mathlib.Core.Path.{_≡_};
 ghost use lib.ListN.{length};
 ghost use Rattle.ranges.specs.Settings.{standard};
@@ -39,9 +44,29 @@ pub fn feed(j: Journal, piece: &[u8], out: &mut [u8]) -> Fed
             left -= 1;
             if calls(begun, e) {
                 let c = event_of(e);
-                let o = next(station, c);
-                station = o.station;
-                put += write_line(&mut out[put..], show_outcome(c, o));
+                let w = way_of(station, c);
+                match w {
+                    Way::Idle => {
+                        let o = idle(station, c);
+                        station = o.station;
+                        put += write_line(&mut out[put..], show_outcome(c, o));
+                    }
+                    Way::Beat(d) => {
+                        let o = beat(station, c, d);
+                        station = o.station;
+                        put += write_line(&mut out[put..], show_outcome(c, o));
+                    }
+                    Way::Space(d) => {
+                        let o = space(station, c, d);
+                        station = o.station;
+                        put += write_line(&mut out[put..], show_outcome(c, o));
+                    }
+                    Way::Other => {
+                        let o = next(station, c);
+                        station = o.station;
+                        put += write_line(&mut out[put..], show_outcome(c, o));
+                    }
+                }
             } else {
                 let t = answer(begun, station, e);
                 let shown = t.shown;
