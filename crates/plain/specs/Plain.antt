@@ -1,4 +1,4 @@
--- What the plain form of a bank means: numbers for where a hypothesis came from and why it left, and for flags. Definitions only.
+-- What the plain form of a bank means: numbers for where a hypothesis came from and why it left, and for flags; what lies beyond a count, or is marked absent, is left empty. Definitions only.
 use mathlib.Core.Bool.{Bool, false, cond, _&&_}
 use Prim.Native.Nat.{ℕ}
 use lib.Dec.{eqb, leb}
@@ -14,7 +14,7 @@ use Rattle.bank_model.specs.declared.Departure.{Departure}
 use Rattle.bank_model.specs.declared.SwitchRecord.{SwitchRecord}
 use Rattle.rival.specs.declared.TimingHypothesis.{TimingHypothesis}
 use Rattle.bank.specs.declared.TimingBank.{TimingBank}
-use Rattle.plain_tracker.specs.Plain.{asFlag, asNumber, isFlag, carried, plainTracker, trackerOf, isTracker}
+use Rattle.plain_tracker.specs.Plain.{asFlag, asNumber, isFlag, carried, firstOf, orNought, plainTracker, trackerOf, isTracker}
 use Rattle.plain.specs.declared.PlainRecord.{PlainRecord}
 use Rattle.plain.specs.declared.PlainHypothesis.{PlainHypothesis}
 use Rattle.plain.specs.declared.PlainBank.{PlainBank}
@@ -114,7 +114,11 @@ noRecord = record { «mark_index» = 0; «from_dit_ms» = nought; «to_dit_ms» 
 abbrev pub blankRecord : PlainRecord
 blankRecord = plainRecord noRecord
 
--- ---- the bank: "Places beyond a count and numbers marked absent are no part of a state", so places beyond a count are left empty
+-- ---- the bank: "Places beyond a count and numbers marked absent are no part of a state", so they are left empty
+
+-- a number where a flag says that there is one, else 0
+abbrev pub orZero : Bool → ℕ → ℕ
+orZero has n = cond has n 0
 
 abbrev pub plainBank : TimingBank → PlainBank
 plainBank b = record {
@@ -124,18 +128,18 @@ plainBank b = record {
   «primary_gap_score» = b .«primary_gap_score»;
   challengers = carried plainHyp blankHyp (b .«challengers_len») (b .challengers);
   «challengers_len» = b .«challengers_len»;
-  streak = b .streak;
+  streak = firstOf (b .«streak_len») (b .streak);
   «streak_len» = b .«streak_len»;
-  «streak_gaps» = b .«streak_gaps»;
+  «streak_gaps» = firstOf (b .«streak_gaps_len») (b .«streak_gaps»);
   «streak_gaps_len» = b .«streak_gaps_len»;
   «has_side» = asNumber (b .«has_side»);
-  «streak_side» = asNumber (b .«streak_side»);
+  «streak_side» = orZero (b .«has_side») (asNumber (b .«streak_side»));
   «has_last_gap» = asNumber (b .«has_last_gap»);
-  «last_gap» = b .«last_gap»;
+  «last_gap» = orNought (b .«has_last_gap») (b .«last_gap»);
   «marks_seen» = b .«marks_seen»;
   «gaps_seen» = b .«gaps_seen»;
   «has_pending» = asNumber (b .«has_pending»);
-  pending = b .pending;
+  pending = orZero (b .«has_pending») (b .pending);
   log = carried plainRecord blankRecord (b .«log_len») (b .log);
   «log_len» = b .«log_len»;
   started = b .started;

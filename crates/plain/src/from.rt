@@ -1,4 +1,5 @@
-// From a plain form to its bank. Of a list that has a count only what is within it is carried over; what lies beyond is empty.
+// From a plain form to its bank. Of the challengers and of the log only what is within the count is carried over; what else lies beyond a count, or is
+// marked absent, is no part of the bank, and is read as it stands.
 use crate::PlainBank;
 use crate::PlainHypothesis;
 use crate::PlainRecord;
@@ -9,11 +10,10 @@ use bank_model::Origin;
 use bank_model::SwitchRecord;
 use plain_tracker::from::flag_of;
 use plain_tracker::from::tracker_of;
+use plain_tracker::is::capped;
 use rival::TimingHypothesis;
 use tracker::SpeedTracker;
 ghost use mathlib.Core.Path.{_≡_};
-ghost use mathlib.Core.Bool.{cond};
-ghost use lib.Dec.{leb};
 ghost use Rattle.plain_tracker.specs.Plain.{carried};
 ghost use Rattle.plain.specs.Plain.{originOf, hypOf, noHyp, recordOf, noRecord, bankOf, isBank};
 
@@ -66,13 +66,6 @@ pub fn no_hypothesis() -> TimingHypothesis
         ln_hi: 0.0,
         serial: 0,
     }
-}
-
-// A count, at most k.
-pub(crate) fn capped(n: usize, k: usize) -> usize
-    ensures { λ r. ⌜ r ≡ cond (leb n k) n k ⌝ }
-{
-    if n <= k { n } else { k }
 }
 
 // The challengers.

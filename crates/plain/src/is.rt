@@ -1,8 +1,8 @@
 // Whether a plain form is a bank's: each flag and origin that is part of the state has a number that means something.
 use crate::PlainBank;
 use crate::PlainHypothesis;
-use crate::from::capped;
 use plain_tracker::is::both;
+use plain_tracker::is::capped;
 use plain_tracker::is::is_flag;
 use plain_tracker::is::is_tracker;
 ghost use mathlib.Core.Path.{_≡_};

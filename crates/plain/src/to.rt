@@ -1,9 +1,8 @@
-// From a bank to its plain form. Of a list that has a count only what is within it is carried over; what lies beyond is empty.
+// From a bank to its plain form. What lies beyond a count, or is marked absent, is left empty.
 use crate::PlainBank;
 use crate::PlainDeparture;
 use crate::PlainHypothesis;
 use crate::PlainRecord;
-use crate::from::capped;
 use crate::from::no_hypothesis;
 use crate::from::no_record;
 use bank::TimingBank;
@@ -11,12 +10,14 @@ use bank_model::Cause;
 use bank_model::Departure;
 use bank_model::Origin;
 use bank_model::SwitchRecord;
+use plain_tracker::is::capped;
 use plain_tracker::to::number_of;
+use plain_tracker::to::or_nought;
 use plain_tracker::to::plain_tracker;
 use rival::TimingHypothesis;
 ghost use mathlib.Core.Path.{_≡_};
-ghost use Rattle.plain_tracker.specs.Plain.{carried};
-ghost use Rattle.plain.specs.Plain.{originCode, retained, causeCode, plainHyp, blankHyp, plainRecord, blankRecord, plainBank, plainDeparture, noDeparture};
+ghost use Rattle.plain_tracker.specs.Plain.{asNumber, carried, firstOf};
+ghost use Rattle.plain.specs.Plain.{originCode, retained, causeCode, plainHyp, blankHyp, plainRecord, blankRecord, orZero, plainBank, plainDeparture, noDeparture};
 
 // Where a hypothesis came from, as a number.
 pub(crate) fn origin_code(o: Origin) -> u8
@@ -122,12 +123,42 @@ pub(crate) fn plain_log(b: TimingBank) -> [PlainRecord; 16]
     out
 }
 
+// The first count of four marks or gaps.
+pub(crate) fn first_of_4(l: [f32; 4], count: usize) -> [f32; 4]
+    ensures { λ r. ⌜ r ≡ firstOf count l ⌝ }
+{
+    let n = capped(count, 4);
+    let mut out: [f32; 4] = [0.0; 4];
+    let mut i: usize = 0;
+    while i < n {
+        out[i] = l[i];
+        i += 1;
+    }
+    out
+}
+
+// A place that may be absent; 0 where it is.
+pub(crate) fn or_zero(has: bool, n: usize) -> usize
+    ensures { λ r. ⌜ r ≡ orZero has n ⌝ }
+{
+    if has { n } else { 0 }
+}
+
+// A side that may be absent, as a number; 0 where it is.
+pub(crate) fn side_number(has: bool, side: bool) -> u8
+    ensures { λ r. ⌜ r ≡ orZero has (asNumber side) ⌝ }
+{
+    if has { number_of(side) } else { 0 }
+}
+
 // A bank.
 pub fn plain_bank(b: TimingBank) -> PlainBank
     ensures { λ r. ⌜ r ≡ plainBank b ⌝ }
 {
-    let streak = b.streak;
-    let streak_gaps = b.streak_gaps;
+    let s = b.streak;
+    let g = b.streak_gaps;
+    let streak = first_of_4(s, b.streak_len);
+    let streak_gaps = first_of_4(g, b.streak_gaps_len);
     let challengers = plain_all(b);
     let log = plain_log(b);
     PlainBank {
@@ -142,13 +173,13 @@ pub fn plain_bank(b: TimingBank) -> PlainBank
         streak_gaps,
         streak_gaps_len: b.streak_gaps_len,
         has_side: number_of(b.has_side),
-        streak_side: number_of(b.streak_side),
+        streak_side: side_number(b.has_side, b.streak_side),
         has_last_gap: number_of(b.has_last_gap),
-        last_gap: b.last_gap,
+        last_gap: or_nought(b.has_last_gap, b.last_gap),
         marks_seen: b.marks_seen,
         gaps_seen: b.gaps_seen,
         has_pending: number_of(b.has_pending),
-        pending: b.pending,
+        pending: or_zero(b.has_pending, b.pending),
         log,
         log_len: b.log_len,
         started: b.started,

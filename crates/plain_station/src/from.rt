@@ -1,4 +1,4 @@
-// From a plain form to its station.
+// From a plain form to its station. What lies beyond a count, or is marked absent, is no part of it.
 use crate::PlainStation;
 use plain::from::bank_from;
 use plain::is::is_bank;

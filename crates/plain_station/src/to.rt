@@ -1,4 +1,4 @@
-// From a station to its plain form. What lies beyond a count is left empty.
+// From a station to its plain form. What lies beyond a count, or is marked absent, is left empty.
 use crate::PlainStation;
 use plain::to::plain_bank;
 use plain_tracker::to::plain_tracker;

@@ -1,6 +1,6 @@
 -- A loop that carries the first entries of an array over, each by a function. Assumes nothing.
 use mathlib.Core.Path.{_≡_, refl, ap, sym, _∙_}
-use mathlib.Core.Bool.{cond}
+use mathlib.Core.Bool.{Bool, cond, _&&_}
 use mathlib.Core.List.{List, [], _∷_, map}
 use Prim.Native.Nat.{ℕ, zero, suc, _+_, _≤_, _<_}
 use native.Mathlib.Numerals.{add-one}
@@ -11,6 +11,7 @@ use lib.Dec.{leb}
 use lib.ListN.{length, take, getD, set}
 use lib.Seq.{take-all}
 use borrow.Author.Tests.{le-leb, lt-leb}
+use Rattle.marks.specs.Lists.{all}
 use Rattle.plain_tracker.specs.Plain.{carried}
 
 -- an array of n places that hold z
@@ -109,12 +110,12 @@ carried-capped {A} {B} f z l n k m w e = go (decLe n k)
 
 -- ---- carried twice
 
--- there and back: what lies within the count is as it was
-pub carried-back : {A B : Type 0} (f : A → B) (g : B → A) (z : B) (y : A) → ((x : A) → g (f x) ≡ x) → (n : ℕ) (l : List A) → carried g y n (carried f z n l) ≡ carried (λ x. x) y n l
+-- there and back: what lies within the count, by u
+pub carried-back : {A B : Type 0} (f : A → B) (g : B → A) (u : A → A) (z : B) (y : A) → ((x : A) → g (f x) ≡ u x) → (n : ℕ) (l : List A) → carried g y n (carried f z n l) ≡ carried u y n l
 unfolding carried
-carried-back f g z y e n [] = refl
-carried-back f g z y e zero (x ∷ l) = ap (λ r. y ∷ r) (carried-back f g z y e zero l)
-carried-back f g z y e (suc n) (x ∷ l) = λ i. e x i ∷ carried-back f g z y e n l i
+carried-back f g u z y e n [] = refl
+carried-back f g u z y e zero (x ∷ l) = ap (λ r. y ∷ r) (carried-back f g u z y e zero l)
+carried-back f g u z y e (suc n) (x ∷ l) = λ i. e x i ∷ carried-back f g u z y e n l i
 
 -- what lies within the count decides
 pub carried-same : {A B : Type 0} (f : A → B) (z : B) (y : A) (n : ℕ) (l : List A) → carried f z n (carried (λ x. x) y n l) ≡ carried f z n l
@@ -122,6 +123,22 @@ unfolding carried
 carried-same f z y n [] = refl
 carried-same f z y zero (x ∷ l) = ap (λ r. z ∷ r) (carried-same f z y zero l)
 carried-same f z y (suc n) (x ∷ l) = ap (λ r. f x ∷ r) (carried-same f z y n l)
+
+-- also by u, where f takes no note of u
+pub carried-by : {A B : Type 0} (f : A → B) (u : A → A) (z : B) (y : A) → ((x : A) → f (u x) ≡ f x) → (n : ℕ) (l : List A) → carried f z n (carried u y n l) ≡ carried f z n l
+unfolding carried
+carried-by f u z y e n [] = refl
+carried-by f u z y e zero (x ∷ l) = ap (λ r. z ∷ r) (carried-by f u z y e zero l)
+carried-by f u z y e (suc n) (x ∷ l) = λ i. e x i ∷ carried-by f u z y e n l i
+
+pub map-by : {A B : Type 0} (f : A → B) (u : A → A) → ((x : A) → f (u x) ≡ f x) → (l : List A) → map f (map u l) ≡ map f l
+map-by f u e [] = refl
+map-by f u e (x ∷ l) = λ i. e x i ∷ map-by f u e l i
+
+pub all-by : {A : Type 0} (p : A → Bool) (u : A → A) → ((x : A) → p (u x) ≡ p x) → (l : List A) → all p (map u l) ≡ all p l
+unfolding all
+all-by p u e [] = refl
+all-by p u e (x ∷ l) = λ i. e x i && all-by p u e l i
 
 -- and is kept
 pub take-kept : {A : Type 0} (y : A) (n : ℕ) (l : List A) → take n (carried (λ x. x) y n l) ≡ take n l

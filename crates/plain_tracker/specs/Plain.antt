@@ -1,9 +1,10 @@
--- What the plain form of a tracker means: a flag is a number, 1 yes and 0 no. Definitions only.
+-- What the plain form of a tracker means: a flag is a number, 1 yes and 0 no, and what lies beyond a count, or is marked absent, is left empty. Definitions only.
 use mathlib.Core.Bool.{Bool, false, cond, _&&_}
 use mathlib.Core.List.{List, [], _∷_, map}
 use Prim.Native.Nat.{ℕ, zero, suc}
 use lib.Dec.{eqb, leb}
 use lib.ListN.{take}
+use lib.Ieee.{Float}
 use Rattle.ranges.specs.Limits.{nought}
 use Rattle.marks.specs.Lists.{all}
 use Rattle.pair.specs.declared.ClusterPair.{ClusterPair}
@@ -34,13 +35,21 @@ carried f z n [] = []
 carried f z zero (x ∷ l) = z ∷ carried f z zero l
 carried f z (suc n) (x ∷ l) = f x ∷ carried f z n l
 
+-- the first n of a list of marks or gaps, and 0 in every place beyond them
+abbrev pub firstOf : ℕ → List Float → List Float
+firstOf n l = carried (λ x. x) nought n l
+
+-- a number where a flag says that there is one, else 0
+abbrev pub orNought : Bool → Float → Float
+orNought has x = cond has x nought
+
 -- ---- the pair
 
 abbrev pub plainPair : ClusterPair → PlainPair
 plainPair p = record {
   lo = p .lo;
   hi = p .hi;
-  init = p .init;
+  init = firstOf (p .«init_len») (p .init);
   «init_len» = p .«init_len»;
   ready = asNumber (p .ready);
   confirmed = asNumber (p .confirmed);
@@ -85,21 +94,21 @@ isEntry p = isFlag (p .«assigned_dit»)
 unfoldable pub isRing : PlainTracker → Bool
 isRing p = all isEntry (take (p .«ring_len») (p .ring))
 
--- ---- the tracker
+-- ---- the tracker: "Places beyond a count and numbers marked absent are no part of a state", so they are left empty; on the way back they are read as they stand
 
 abbrev pub plainTracker : SpeedTracker → PlainTracker
 plainTracker t = record {
   pair = plainPair (t .pair);
-  ring = map plainEntry (t .ring);
+  ring = carried plainEntry blankEntry (t .«ring_len») (t .ring);
   «ring_len» = t .«ring_len»;
   «has_wpm» = asNumber (t .«has_wpm»);
-  «wpm_ema» = t .«wpm_ema»;
-  recent = t .recent;
+  «wpm_ema» = orNought (t .«has_wpm») (t .«wpm_ema»);
+  recent = firstOf (t .«recent_len») (t .recent);
   «recent_len» = t .«recent_len»;
   «has_egap» = asNumber (t .«has_egap»);
-  «mu_egap_ms» = t .«mu_egap_ms»;
+  «mu_egap_ms» = orNought (t .«has_egap») (t .«mu_egap_ms»);
   «has_hint» = asNumber (t .«has_hint»);
-  «ratio_hint» = t .«ratio_hint»;
+  «ratio_hint» = orNought (t .«has_hint») (t .«ratio_hint»);
   regime = t .regime;
   «badlock_recovered» = asNumber (t .«badlock_recovered»);
   «lo_uncorroborated» = asNumber (t .«lo_uncorroborated»);

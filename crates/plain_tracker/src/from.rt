@@ -1,4 +1,4 @@
-// From a plain form to its tracker.
+// From a plain form to its tracker. What lies beyond a count, or is marked absent, is no part of it, and is read as it stands.
 use crate::PlainEntry;
 use crate::PlainPair;
 use crate::PlainTracker;

@@ -41,18 +41,18 @@ pub(crate) fn are_flags(p: PlainTracker) -> bool
     )
 }
 
-// A count of marks of the ring, at most 12.
-pub(crate) fn capped(n: usize) -> usize
-    ensures { λ r. ⌜ r ≡ cond (leb n 12) n 12 ⌝ }
+// A count, at most k.
+pub fn capped(n: usize, k: usize) -> usize
+    ensures { λ r. ⌜ r ≡ cond (leb n k) n k ⌝ }
 {
-    if n <= 12 { n } else { 12 }
+    if n <= k { n } else { k }
 }
 
 // Whether each mark of the ring was classed: what lies beyond the count is no part of a tracker.
 pub(crate) fn is_ring(p: PlainTracker) -> bool
     ensures { λ r. ⌜ r ≡ isRing p ⌝ }
 {
-    let n = capped(p.ring_len);
+    let n = capped(p.ring_len, 12);
     let mut i: usize = 0;
     while i < n {
         let e = p.ring[i];

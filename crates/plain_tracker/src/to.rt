@@ -1,13 +1,13 @@
-// From a tracker to its plain form.
+// From a tracker to its plain form. What lies beyond a count, or is marked absent, is left empty.
 use crate::PlainEntry;
 use crate::PlainPair;
 use crate::PlainTracker;
+use crate::is::capped;
 use pair::ClusterPair;
 use ring::RingEntry;
 use tracker::SpeedTracker;
 ghost use mathlib.Core.Path.{_≡_};
-ghost use mathlib.Core.List.{map};
-ghost use Rattle.plain_tracker.specs.Plain.{asNumber, blankEntry, plainPair, plainEntry, plainTracker};
+ghost use Rattle.plain_tracker.specs.Plain.{asNumber, carried, firstOf, orNought, blankEntry, plainPair, plainEntry, plainTracker};
 
 // A flag as a number.
 pub fn number_of(b: bool) -> u8
@@ -16,11 +16,47 @@ pub fn number_of(b: bool) -> u8
     if b { 1 } else { 0 }
 }
 
+// A number that may be absent; 0 where it is.
+pub fn or_nought(has: bool, x: f32) -> f32
+    ensures { λ r. ⌜ r ≡ orNought has x ⌝ }
+{
+    if has { x } else { 0.0 }
+}
+
+// The first count of twelve marks.
+pub(crate) fn first_of_12(l: [f32; 12], count: usize) -> [f32; 12]
+    ensures { λ r. ⌜ r ≡ firstOf count l ⌝ }
+{
+    let n = capped(count, 12);
+    let mut out: [f32; 12] = [0.0; 12];
+    let mut i: usize = 0;
+    while i < n {
+        out[i] = l[i];
+        i += 1;
+    }
+    out
+}
+
+// The first count of five marks.
+pub(crate) fn first_of_5(l: [f32; 5], count: usize) -> [f32; 5]
+    ensures { λ r. ⌜ r ≡ firstOf count l ⌝ }
+{
+    let n = capped(count, 5);
+    let mut out: [f32; 5] = [0.0; 5];
+    let mut i: usize = 0;
+    while i < n {
+        out[i] = l[i];
+        i += 1;
+    }
+    out
+}
+
 // The centroids and the start marks.
 pub fn plain_pair(p: ClusterPair) -> PlainPair
     ensures { λ r. ⌜ r ≡ plainPair p ⌝ }
 {
-    let init = p.init;
+    let l = p.init;
+    let init = first_of_12(l, p.init_len);
     PlainPair {
         lo: p.lo,
         hi: p.hi,
@@ -59,12 +95,13 @@ pub(crate) fn blank_entry() -> PlainEntry
 
 // The ring.
 pub(crate) fn plain_ring(t: SpeedTracker) -> [PlainEntry; 12]
-    ensures { λ r. ⌜ r ≡ map plainEntry (t .ring) ⌝ }
+    ensures { λ r. ⌜ r ≡ carried plainEntry blankEntry (t .«ring_len») (t .ring) ⌝ }
 {
+    let n = capped(t.ring_len, 12);
     let z = blank_entry();
     let mut out = [z; 12];
     let mut i: usize = 0;
-    while i < 12 {
+    while i < n {
         let e = t.ring[i];
         let q = plain_entry(e);
         out[i] = q;
@@ -77,8 +114,9 @@ pub(crate) fn plain_ring(t: SpeedTracker) -> [PlainEntry; 12]
 pub fn plain_tracker(t: SpeedTracker) -> PlainTracker
     ensures { λ r. ⌜ r ≡ plainTracker t ⌝ }
 {
-    let recent = t.recent;
+    let l = t.recent;
     let p = t.pair;
+    let recent = first_of_5(l, t.recent_len);
     let pair = plain_pair(p);
     let ring = plain_ring(t);
     PlainTracker {
@@ -86,13 +124,13 @@ pub fn plain_tracker(t: SpeedTracker) -> PlainTracker
         ring,
         ring_len: t.ring_len,
         has_wpm: number_of(t.has_wpm),
-        wpm_ema: t.wpm_ema,
+        wpm_ema: or_nought(t.has_wpm, t.wpm_ema),
         recent,
         recent_len: t.recent_len,
         has_egap: number_of(t.has_egap),
-        mu_egap_ms: t.mu_egap_ms,
+        mu_egap_ms: or_nought(t.has_egap, t.mu_egap_ms),
         has_hint: number_of(t.has_hint),
-        ratio_hint: t.ratio_hint,
+        ratio_hint: or_nought(t.has_hint, t.ratio_hint),
         regime: t.regime,
         badlock_recovered: number_of(t.badlock_recovered),
         lo_uncorroborated: number_of(t.lo_uncorroborated),

@@ -1,27 +1,28 @@
 -- `plain_tracker::to::plain_ring` meets its contract. Assumes nothing.
-use mathlib.Core.Path.{_≡_, _∙_}
 use Prim.Native.Nat.{_-_}
 use native.Mathlib.Omega.{arith}
-use lib.ListN.{length}
 use borrow.Author.Needs.{needs}
 use Rattle.marks.proofs.Shifting.{unmapped}
 use Rattle.plain_tracker.specs.Plain.{plainEntry, blankEntry}
-use Rattle.plain_tracker.proofs.Carrying.{Carrying, filled, carry-begins, carry-turns, carry-ends, carried-all}
+use Rattle.plain_tracker.proofs.Carrying.{Laden, filled, laden-begins, laden-turns, laden-ends}
 use Rattle.plain_tracker.proofs.to.plain_ring.Statement.{statement}
 use Rattle.plain_tracker.proofs.to.plain_ring.Tie as tie
 
 abbrev Inv-loop : tie.InvT-loop
-Inv-loop t out₀ i₀ out i = Carrying plainEntry blankEntry (t .ring) 12 out i
+Inv-loop t n out₀ i₀ out i = Laden plainEntry blankEntry (t .ring) 12 (t .«ring_len») n out i
 
 abbrev μ-loop : tie.MeasureT-loop
-μ-loop t out₀ i₀ out i = 12 - i
+μ-loop t n out₀ i₀ out i = n - i
+
+capped-requires : tie.Need-capped-requires Inv-loop μ-loop
+capped-requires c κs = search needs
 
 blank-entry-requires : tie.Need-blank-entry-requires Inv-loop μ-loop
 blank-entry-requires c κs = search needs
 
 loop-holds : tie.Need-loop-holds Inv-loop μ-loop
 unfolding filled
-loop-holds c = carry-begins plainEntry blankEntry _ 12 _ 12 (c .blank-entry .ensures) (search (unmapped, needs)) (omega arith)
+loop-holds c = laden-begins plainEntry blankEntry _ 12 _ _ _ (c .blank-entry .ensures) (search (unmapped, needs)) (c .before .capped .ensures)
 
 mul-e : tie.Need-mul-e Inv-loop μ-loop
 mul-e c = search needs
@@ -45,12 +46,10 @@ loop-less : tie.Need-loop-less Inv-loop μ-loop
 loop-less c = search needs
 
 loop-again : tie.Need-loop-again Inv-loop μ-loop
-loop-again c = carry-turns plainEntry blankEntry _ 12 _ _ _ _ (c .before .before .loop-test .taken) (c .before .before .before .loop .inv) (c .plain-entry .ensures)
+loop-again c = laden-turns plainEntry blankEntry _ 12 _ _ _ _ _ _ (c .before .before .loop-test .taken) (c .before .before .before .loop .inv) (c .plain-entry .ensures)
 
 returns : tie.Need-returns Inv-loop μ-loop
-returns c =
-    let l : length (c .before .before .before .args .t1 .ring) ≡ 12 = search (unmapped, needs) in
-    carry-ends plainEntry blankEntry _ 12 _ _ (c .loop-test .left) (c .before .loop .inv) ∙ carried-all plainEntry blankEntry _ 12 (omega arith)
+returns c = laden-ends plainEntry blankEntry _ 12 _ _ _ _ (c .loop-test .left) (c .before .loop .inv)
 
 pub plain-ring-spec : {M : Type 1} → statement M
 plain-ring-spec =
@@ -58,6 +57,7 @@ plain-ring-spec =
     (tie.spec
     Inv-loop
     μ-loop
+    capped-requires
     blank-entry-requires
     loop-holds
     mul-e
