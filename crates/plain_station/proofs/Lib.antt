@@ -1,1 +1,3 @@
 pub mod Back
+pub mod Told
+pub mod Canonical
