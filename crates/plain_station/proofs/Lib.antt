@@ -1,3 +1,4 @@
 pub mod Back
 pub mod Told
 pub mod Canonical
+pub mod Tidied
