@@ -19,9 +19,10 @@ use Rattle.plain_station.specs.Plain.{plainStation, stationOf}
 use Rattle.hullathan.specs.declared.PlainAnswer.{PlainAnswer}
 use Rattle.hullathan.specs.declared.Called.{Called}
 use Rattle.hullathan.specs.Host.{Answers, Neat, asked, barred, good, meant, rowOf}
-use Rattle.hullathan.specs.Parts.{Handed, Means, Told, Turns}
+use Rattle.hullathan.specs.Parts.{Handed, Means, Row, Told, Turns}
 use Rattle.hullathan.proofs.Asking.{asked-sorts, turns-next}
 use Rattle.hullathan.proofs.Forms.{form-means}
+use Rattle.hullathan.proofs.Rows.{row-is}
 
 taken-few : {A : Type 0} (l : List A) (n : ℕ) → length (take n l) ≤ n
 taken-few l zero = omega arith
@@ -43,11 +44,12 @@ pub told-as : (s : Station) (e q : Option Event) (o : Outcome) (r : PlainAnswer)
 told-as s e q o r k h f = subst (λ (z : Option Event). Told s z (o .station) r) k (record { solid = h .solid; state = ap (λ (m : Model.Outcome). m .station) (h .is); row = f ∙ ap rowOf (h .is); few = turn-few s q o h })
 
 -- an event of the loop that goes the short ways
-pub next-fits : (s : Station) (v : Event) (o : Outcome) → Steady s → Next s v o → ((number (o .answer .code) ≤ 12) × (o .answer .«left_len» ≤ 9)) × Solid (o .station)
-next-fits s v o h n = let t = turns-next s v o h n in ((t .small, t .few), t .solid)
+pub next-fits : (s : Station) (v : Event) (o : Outcome) → Steady s → Next s v o → (number (o .answer .code) ≤ 12) × (o .answer .«left_len» ≤ 9)
+next-fits s v o h n = let t = turns-next s v o h n in (t .small, t .few)
 
-pub next-told : (s : Station) (v : Event) (e : Option Event) (o : Outcome) (r : PlainAnswer) → Steady s → some v ≡ e → Next s v o → r ≡ rowOf (outcome o) → Steady (o .station) × Told s e (o .station) r
-next-told s v e o r h k n f = (n .steady, told-as s e (some v) o r k (turns-next s v o h n) f)
+pub next-told : (s : Station) (v : Event) (e : Option Event) (o : Outcome) (r : PlainAnswer) → Steady s → some v ≡ e → Next s v o
+    → Row (o .answer) (o .station .primary .pair .lo) (o .station .primary .pair .hi) (o .station .serial) (o .station .bank .«challengers_len») r → Steady (o .station) × Told s e (o .station) r
+next-told s v e o r h k n f = (n .steady, told-as s e (some v) o r k (turns-next s v o h n) (row-is o (o .station) r refl (n .steady .solid) f))
 
 -- one that no event has: the station stays
 pub none-told : (s : Station) (e : Option Event) (r : PlainAnswer) → Steady s → none ≡ e → r ≡ rowOf (asked (view s) none) → Steady s × Told s e s r

@@ -4,17 +4,21 @@ use mathlib.Core.List.{List, [], _∷_, map}
 use Prim.Native.Nat.{ℕ, zero, suc, _≤_}
 use native.Mathlib.Omega.{arith}
 use lib.ListN.{length, take}
+use lib.Ieee.{Float}
 use Rattle.bank_model.specs.declared.Departure.{Departure}
 use Rattle.plain_tracker.specs.Plain.{carried}
 use Rattle.plain.specs.declared.PlainDeparture.{PlainDeparture}
 use Rattle.plain.specs.Plain.{plainDeparture, noDeparture}
 use Rattle.rival.specs.declared.TimingHypothesis.{TimingHypothesis}
 use Rattle.rival.specs.View.{viewHyp}
+use Rattle.station.specs.declared.Answer.{Answer}
 use Rattle.station.specs.declared.Outcome.{Outcome}
+use Rattle.station.specs.declared.Station.{Station}
 use Rattle.station.specs.View.{outcome}
 use Rattle.station.specs.Parts.{Solid}
 use Rattle.hullathan.specs.declared.PlainAnswer.{PlainAnswer}
 use Rattle.hullathan.specs.declared.PlainRival.{PlainRival}
+use Rattle.hullathan.specs.Parts.{Row}
 use Rattle.hullathan.specs.Host.{codeNumber, noRival, padded, rivalOf, rowOf, shown}
 
 abbrev first : List Departure → ℕ → List PlainDeparture
@@ -41,18 +45,35 @@ pub map-long : {A B : Type 0} (f : A → B) (l : List A) → length (map f l) �
 map-long f [] = refl
 map-long f (x ∷ l) = ap suc (map-long f l)
 
--- the answer of an outcome
-pub row-is : (o : Outcome) (code : ℕ) (left : List PlainDeparture) → code ≡ codeNumber (o .answer .code) → left ≡ carried plainDeparture noDeparture (o .answer .«left_len») (o .answer .left) → length (o .answer .left) ≡ 9
-    → o .answer .«left_len» ≤ 9 → Solid (o .station)
-    → record { code = code; «dit_ms» = o .station .primary .pair .lo; «dah_ms» = o .station .primary .pair .hi; serial = o .station .serial; challengers = o .station .bank .«challengers_len»; left = left; «left_len» = o .answer .«left_len» } ≡ rowOf (outcome o)
-row-is o code left e f h k s =
+-- an answer, number by number
+pub row-made : (a : Answer) (lo hi : Float) (serial n code : ℕ) (left : List PlainDeparture) → code ≡ codeNumber (a .code) → left ≡ carried plainDeparture noDeparture (a .«left_len») (a .left) → length (a .left) ≡ 9
+    → a .«left_len» ≤ 9 → Row a lo hi serial n (record { code = code; «dit_ms» = lo; «dah_ms» = hi; serial = serial; challengers = n; left = left; «left_len» = a .«left_len» })
+row-made a lo hi serial n code left e f h k = record {
+  code = e;
+  dit = refl;
+  dah = refl;
+  serial-is = refl;
+  held = refl;
+  left = f ∙ left-padded (a .left) (a .«left_len») h;
+  many = sym (left-long (a .left) (a .«left_len») (omega arith));
+}
+
+-- and it is that of the outcome
+pub row-is : (o : Outcome) (t : Station) (r : PlainAnswer) → t ≡ o .station → Solid (o .station) → Row (o .answer) (t .primary .pair .lo) (t .primary .pair .hi) (t .serial) (t .bank .«challengers_len») r → r ≡ rowOf (outcome o)
+row-is o t r e s v =
     let few = s .bank .steady .crew .few in
     let wide = s .bank .steady .crew .long in
     let held : o .station .bank .«challengers_len» ≡ length (map viewHyp (take (o .station .bank .«challengers_len») (o .station .bank .challengers))) =
     sym (map-long viewHyp (take (o .station .bank .«challengers_len») (o .station .bank .challengers)) ∙ left-long (o .station .bank .challengers) (o .station .bank .«challengers_len») (omega arith)) in
-    let gone : left ≡ padded 9 (first (o .answer .left) (o .answer .«left_len»)) = f ∙ left-padded (o .answer .left) (o .answer .«left_len») h in
-    let many : o .answer .«left_len» ≡ length (take (o .answer .«left_len») (o .answer .left)) = sym (left-long (o .answer .left) (o .answer .«left_len») (omega arith)) in
-    λ i. record { code = e i; «dit_ms» = o .station .primary .pair .lo; «dah_ms» = o .station .primary .pair .hi; serial = o .station .serial; challengers = held i; left = gone i; «left_len» = many i }
+    λ i. record {
+      code = v .code i;
+      «dit_ms» = (v .dit ∙ ap (λ (z : Station). z .primary .pair .lo) e) i;
+      «dah_ms» = (v .dah ∙ ap (λ (z : Station). z .primary .pair .hi) e) i;
+      serial = (v .serial-is ∙ ap (λ (z : Station). z .serial) e) i;
+      challengers = (v .held ∙ ap (λ (z : Station). z .bank .«challengers_len») e ∙ held) i;
+      left = v .left i;
+      «left_len» = v .many i;
+    }
 
 -- ---- the rivals in eight places
 abbrev pub rivalIn : TimingHypothesis → PlainRival

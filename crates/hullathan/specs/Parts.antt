@@ -5,12 +5,15 @@ use mathlib.Core.Option.{Option, none, some}
 use Prim.Native.Nat.{ℕ, _≤_}
 use mathlib.Core.List.{map}
 use lib.ListN.{length, take}
+use lib.Ieee.{Float}
+use Rattle.plain.specs.Plain.{plainDeparture}
 use Rattle.tracker.specs.declared.Told as Starting
 use Rattle.tracker.specs.declared.Told.the-variants as Tell
 use Rattle.station_model.specs.declared.Event.{Event}
 use Rattle.station_model.specs.Station.{number, taken}
 use Rattle.station_model.specs.Station as Model
 use Rattle.station.specs.declared.Station.{Station}
+use Rattle.station.specs.declared.Answer.{Answer}
 use Rattle.station.specs.declared.Outcome.{Outcome}
 use Rattle.station.specs.View.{outcome, view}
 use Rattle.station.specs.Parts.{Solid}
@@ -21,7 +24,7 @@ use Rattle.hullathan.specs.declared.Called.{Called}
 use Rattle.hullathan.specs.declared.PlainAnswer.{PlainAnswer}
 use Rattle.hullathan.specs.declared.PlainBatch.{PlainBatch}
 use Rattle.hullathan.specs.declared.Ran.{Ran}
-use Rattle.hullathan.specs.Host.{Few, Neat, after, asked, good, meant, ofEvent, outcomes, rowOf, withAnswers}
+use Rattle.hullathan.specs.Host.{Few, Neat, after, asked, codeNumber, good, meant, ofEvent, outcomes, padded, rowOf, withAnswers}
 
 abbrev pub ofAsked : Asked → Option Event
 ofAsked (A.Is e) = some e
@@ -65,3 +68,13 @@ pub record Along (s : Station) (b : PlainBatch) (n : ℕ) (r : Ran) : Type 0 whe
   pub told : r .batch ≡ withAnswers b (map rowOf (outcomes (view s) (map ofEvent (take n (b .events)))))
   pub few : Few (outcomes (view s) (map ofEvent (take n (b .events))))
   pub means : Means (r .station) (after (view s) (map ofEvent (take n (b .events))))
+
+-- an answer of a call that left a station with this dit, dah and serial and so many challengers, as a host reads it
+pub record Row (a : Answer) (lo hi : Float) (serial challengers : ℕ) (r : PlainAnswer) : Type 0 where
+  pub code : r .code ≡ codeNumber (a .code)
+  pub dit : r .«dit_ms» ≡ lo
+  pub dah : r .«dah_ms» ≡ hi
+  pub serial-is : r .serial ≡ serial
+  pub held : r .challengers ≡ challengers
+  pub left : r .left ≡ padded 9 (map plainDeparture (take (a .«left_len») (a .left)))
+  pub many : r .«left_len» ≡ length (take (a .«left_len») (a .left))

@@ -8,6 +8,7 @@ use crate::event::event_of;
 use crate::inner::formless_row;
 use crate::inner::is_good;
 use crate::inner::row;
+use crate::inner::row_after;
 use crate::inner::turn;
 use plain_station::PlainStation;
 use plain_station::from::station_from;
@@ -97,23 +98,23 @@ pub(crate) fn along(s: Station, b: PlainBatch, n: usize) -> Ran
         match w {
             Way::Idle => {
                 let o = idle(c, v);
-                out.answers[j] = row(o);
                 c = o.station;
+                out.answers[j] = row_after(o.answer, c);
             }
             Way::Beat(d) => {
                 let o = beat(c, v, d);
-                out.answers[j] = row(o);
                 c = o.station;
+                out.answers[j] = row_after(o.answer, c);
             }
             Way::Space(d) => {
                 let o = space(c, v, d);
-                out.answers[j] = row(o);
                 c = o.station;
+                out.answers[j] = row_after(o.answer, c);
             }
             Way::Other => {
                 let o = next(c, v);
-                out.answers[j] = row(o);
                 c = o.station;
+                out.answers[j] = row_after(o.answer, c);
             }
         }
     }

@@ -5,6 +5,7 @@ use crate::event::code_number;
 use plain::to::plain_departures;
 use plain_station::PlainStation;
 use plain_station::from::is_station;
+use station::Answer;
 use station::Outcome;
 use station::Station;
 use station::inner::call::call;
@@ -22,7 +23,7 @@ ghost use Rattle.ranges.specs.Settings.{standard};
 ghost use Rattle.station.specs.Sound.{sound};
 ghost use Rattle.plain_station.specs.Plain.{isStation};
 ghost use Rattle.hullathan.specs.Host.{asked, rowOf};
-ghost use Rattle.hullathan.specs.Parts.{Turns, ofAsked};
+ghost use Rattle.hullathan.specs.Parts.{Row, Turns, ofAsked};
 
 // Whether the memory p holds a sound station, s.
 pub fn is_good(p: PlainStation, s: Station) -> bool
@@ -52,7 +53,40 @@ pub fn turn(s: Station, a: Asked) -> Outcome
     }
 }
 
-// The answer as a host reads it.
+// The answer as a host reads it, of a station with this dit, dah and serial and so many challengers.
+pub(crate) fn row_of(a: Answer, lo: f32, hi: f32, serial: u64, challengers: usize) -> PlainAnswer
+    requires { ⌜ (number (a .code) ≤ 12) × (a .«left_len» ≤ 9) ⌝ }
+    ensures { λ r. ⌜ Row a lo hi serial challengers r ⌝ }
+{
+    let why = a.code;
+    let l = a.left;
+    let left = plain_departures(l, a.left_len);
+    PlainAnswer {
+        code: code_number(why),
+        dit_ms: lo,
+        dah_ms: hi,
+        serial,
+        challengers,
+        left,
+        left_len: a.left_len,
+    }
+}
+
+// The answer as a host reads it, of a call that left the station s.
+pub(crate) fn row_after(a: Answer, s: Station) -> PlainAnswer
+    requires { ⌜ (number (a .code) ≤ 12) × (a .«left_len» ≤ 9) ⌝ }
+    ensures { λ r. ⌜ Row a (s .primary .pair .lo) (s .primary .pair .hi) (s .serial) (s .bank .«challengers_len») r ⌝ }
+{
+    row_of(
+        a,
+        s.primary.pair.lo,
+        s.primary.pair.hi,
+        s.serial,
+        s.bank.challengers_len,
+    )
+}
+
+// The answer of an outcome.
 pub fn row(o: Outcome) -> PlainAnswer
     requires { ⌜ (number (o .answer .code) ≤ 12) × (o .answer .«left_len» ≤ 9) ⌝ }
     requires { ⌜ Solid (o .station) ⌝ }
@@ -60,18 +94,7 @@ pub fn row(o: Outcome) -> PlainAnswer
 {
     let s = o.station;
     let a = o.answer;
-    let why = a.code;
-    let l = a.left;
-    let left = plain_departures(l, a.left_len);
-    PlainAnswer {
-        code: code_number(why),
-        dit_ms: s.primary.pair.lo,
-        dah_ms: s.primary.pair.hi,
-        serial: s.serial,
-        challengers: s.bank.challengers_len,
-        left,
-        left_len: a.left_len,
-    }
+    row_after(a, s)
 }
 
 // The answer where no event has the kind.

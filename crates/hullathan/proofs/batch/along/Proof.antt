@@ -82,20 +82,20 @@ idle-requires c κs =
     let l = y .before .before .before .before .before .before .before .loop in
     (l .inv .0, subst (λ (x : Way). Leads (l .c) (y .before .before .a .given .0 .0) x) (c .enum-told2 .given .1) (y .way-of .ensures))
 
-row-requires : tie.Need-row-requires Inv-loop μ-loop
-row-requires c κs =
-    next-fits _ _ _ (c .before .before .before .before .before .before .before .before .before .before .loop .inv .0) (c .idle .ensures)
+row-after-requires : tie.Need-row-after-requires Inv-loop μ-loop
+row-after-requires c κs =
+    next-fits _ _ _ (c .before .before .before .before .before .before .before .before .before .before .before .loop .inv .0) (c .before .idle .ensures)
 
 mul-t30 : tie.Need-mul-t30 Inv-loop μ-loop
 mul-t30 c =
-    let k = c .before .before .before .before .before .before .before .before .before .before .before .loop .inv .1 .most in
-    let h = c .before .before .before .before .before .before .before .before .before .before .loop-test .taken in
+    let k = c .before .before .before .before .before .before .before .before .before .before .before .before .loop .inv .1 .most in
+    let h = c .before .before .before .before .before .before .before .before .before .before .before .loop-test .taken in
     record { fits = place-fits _ _ h k }
 
 element-set-from-out-2 : tie.Need-element-set-from-out-2 Inv-loop μ-loop
 element-set-from-out-2 c =
-    let k = c .before .before .before .before .before .before .before .before .before .before .before .loop .inv .1 .most in
-    let h = c .before .before .before .before .before .before .before .before .before .before .loop-test .taken in
+    let k = c .before .before .before .before .before .before .before .before .before .before .before .before .loop .inv .1 .most in
+    let h = c .before .before .before .before .before .before .before .before .before .before .before .loop-test .taken in
     omega (arith, h, k)
 
 loop-less-2 : tie.Need-loop-less-2 Inv-loop μ-loop
@@ -108,7 +108,7 @@ loop-again-2 c =
     let E = c .before .before .before .before .before .before .before .before .before in
     let a = E .before .before .before .before .args in
     let l = E .before .before .before .loop in
-    let t = next-told (l .c) _ _ _ _ (l .inv .0) (ap ofAsked (sym (c .before .before .before .before .before .before .before .a .given .1)) ∙ E .event-of .ensures) (c .before .before .idle .ensures) (c .before .row .ensures) in
+    let t = next-told (l .c) _ _ _ _ (l .inv .0) (ap ofAsked (sym (c .before .before .before .before .before .before .before .a .given .1)) ∙ E .event-of .ensures) (c .before .before .idle .ensures) (c .row-after .ensures) in
     (t .0, run-turns (a .s) (a .t2) (a .n) (l .c) _ (l .out) (l .i) _ _ (E .before .before .loop-test .taken) (l .inv .1) (t .1))
 
 enum-known-w : tie.Need-enum-known-w Inv-loop μ-loop
@@ -120,20 +120,20 @@ beat-requires c κs =
     let l = y .before .before .before .before .before .before .before .loop in
     (l .inv .0, subst (λ (x : Way). Leads (l .c) (y .before .before .a .given .0 .0) x) (c .before .w .given .1) (y .way-of .ensures))
 
-row-requires-2 : tie.Need-row-requires-2 Inv-loop μ-loop
-row-requires-2 c κs =
-    next-fits _ _ _ (c .before .before .before .before .before .before .before .before .before .before .before .loop .inv .0) (c .beat .ensures)
+row-after-requires-2 : tie.Need-row-after-requires-2 Inv-loop μ-loop
+row-after-requires-2 c κs =
+    next-fits _ _ _ (c .before .before .before .before .before .before .before .before .before .before .before .before .loop .inv .0) (c .before .beat .ensures)
 
 mul-t34 : tie.Need-mul-t34 Inv-loop μ-loop
 mul-t34 c =
-    let k = c .before .before .before .before .before .before .before .before .before .before .before .before .loop .inv .1 .most in
-    let h = c .before .before .before .before .before .before .before .before .before .before .before .loop-test .taken in
+    let k = c .before .before .before .before .before .before .before .before .before .before .before .before .before .loop .inv .1 .most in
+    let h = c .before .before .before .before .before .before .before .before .before .before .before .before .loop-test .taken in
     record { fits = place-fits _ _ h k }
 
 element-set-from-out-3 : tie.Need-element-set-from-out-3 Inv-loop μ-loop
 element-set-from-out-3 c =
-    let k = c .before .before .before .before .before .before .before .before .before .before .before .before .loop .inv .1 .most in
-    let h = c .before .before .before .before .before .before .before .before .before .before .before .loop-test .taken in
+    let k = c .before .before .before .before .before .before .before .before .before .before .before .before .before .loop .inv .1 .most in
+    let h = c .before .before .before .before .before .before .before .before .before .before .before .before .loop-test .taken in
     omega (arith, h, k)
 
 loop-less-3 : tie.Need-loop-less-3 Inv-loop μ-loop
@@ -146,7 +146,7 @@ loop-again-3 c =
     let E = c .before .before .before .before .before .before .before .before .before .before in
     let a = E .before .before .before .before .args in
     let l = E .before .before .before .loop in
-    let t = next-told (l .c) _ _ _ _ (l .inv .0) (ap ofAsked (sym (c .before .before .before .before .before .before .before .before .a .given .1)) ∙ E .event-of .ensures) (c .before .before .beat .ensures) (c .before .row2 .ensures) in
+    let t = next-told (l .c) _ _ _ _ (l .inv .0) (ap ofAsked (sym (c .before .before .before .before .before .before .before .before .a .given .1)) ∙ E .event-of .ensures) (c .before .before .beat .ensures) (c .row-after2 .ensures) in
     (t .0, run-turns (a .s) (a .t2) (a .n) (l .c) _ (l .out) (l .i) _ _ (E .before .before .loop-test .taken) (l .inv .1) (t .1))
 
 enum-known-w-2 : tie.Need-enum-known-w-2 Inv-loop μ-loop
@@ -158,20 +158,20 @@ space-requires c κs =
     let l = y .before .before .before .before .before .before .before .loop in
     (l .inv .0, subst (λ (x : Way). Leads (l .c) (y .before .before .a .given .0 .0) x) (c .before .w2 .given .1) (y .way-of .ensures))
 
-row-requires-3 : tie.Need-row-requires-3 Inv-loop μ-loop
-row-requires-3 c κs =
-    next-fits _ _ _ (c .before .before .before .before .before .before .before .before .before .before .before .loop .inv .0) (c .space .ensures)
+row-after-requires-3 : tie.Need-row-after-requires-3 Inv-loop μ-loop
+row-after-requires-3 c κs =
+    next-fits _ _ _ (c .before .before .before .before .before .before .before .before .before .before .before .before .loop .inv .0) (c .before .space .ensures)
 
 mul-t38 : tie.Need-mul-t38 Inv-loop μ-loop
 mul-t38 c =
-    let k = c .before .before .before .before .before .before .before .before .before .before .before .before .loop .inv .1 .most in
-    let h = c .before .before .before .before .before .before .before .before .before .before .before .loop-test .taken in
+    let k = c .before .before .before .before .before .before .before .before .before .before .before .before .before .loop .inv .1 .most in
+    let h = c .before .before .before .before .before .before .before .before .before .before .before .before .loop-test .taken in
     record { fits = place-fits _ _ h k }
 
 element-set-from-out-4 : tie.Need-element-set-from-out-4 Inv-loop μ-loop
 element-set-from-out-4 c =
-    let k = c .before .before .before .before .before .before .before .before .before .before .before .before .loop .inv .1 .most in
-    let h = c .before .before .before .before .before .before .before .before .before .before .before .loop-test .taken in
+    let k = c .before .before .before .before .before .before .before .before .before .before .before .before .before .loop .inv .1 .most in
+    let h = c .before .before .before .before .before .before .before .before .before .before .before .before .loop-test .taken in
     omega (arith, h, k)
 
 loop-less-4 : tie.Need-loop-less-4 Inv-loop μ-loop
@@ -184,7 +184,7 @@ loop-again-4 c =
     let E = c .before .before .before .before .before .before .before .before .before .before in
     let a = E .before .before .before .before .args in
     let l = E .before .before .before .loop in
-    let t = next-told (l .c) _ _ _ _ (l .inv .0) (ap ofAsked (sym (c .before .before .before .before .before .before .before .before .a .given .1)) ∙ E .event-of .ensures) (c .before .before .space .ensures) (c .before .row3 .ensures) in
+    let t = next-told (l .c) _ _ _ _ (l .inv .0) (ap ofAsked (sym (c .before .before .before .before .before .before .before .before .a .given .1)) ∙ E .event-of .ensures) (c .before .before .space .ensures) (c .row-after3 .ensures) in
     (t .0, run-turns (a .s) (a .t2) (a .n) (l .c) _ (l .out) (l .i) _ _ (E .before .before .loop-test .taken) (l .inv .1) (t .1))
 
 enum-told-3 : tie.Need-enum-told-3 Inv-loop μ-loop
@@ -194,20 +194,20 @@ next-requires : tie.Need-next-requires Inv-loop μ-loop
 next-requires c κs =
     c .before .before .before .before .before .before .before .before .before .loop .inv .0
 
-row-requires-4 : tie.Need-row-requires-4 Inv-loop μ-loop
-row-requires-4 c κs =
-    next-fits _ _ _ (c .before .before .before .before .before .before .before .before .before .before .loop .inv .0) (c .next .ensures)
+row-after-requires-4 : tie.Need-row-after-requires-4 Inv-loop μ-loop
+row-after-requires-4 c κs =
+    next-fits _ _ _ (c .before .before .before .before .before .before .before .before .before .before .before .loop .inv .0) (c .before .next .ensures)
 
 mul-t42 : tie.Need-mul-t42 Inv-loop μ-loop
 mul-t42 c =
-    let k = c .before .before .before .before .before .before .before .before .before .before .before .loop .inv .1 .most in
-    let h = c .before .before .before .before .before .before .before .before .before .before .loop-test .taken in
+    let k = c .before .before .before .before .before .before .before .before .before .before .before .before .loop .inv .1 .most in
+    let h = c .before .before .before .before .before .before .before .before .before .before .before .loop-test .taken in
     record { fits = place-fits _ _ h k }
 
 element-set-from-out-5 : tie.Need-element-set-from-out-5 Inv-loop μ-loop
 element-set-from-out-5 c =
-    let k = c .before .before .before .before .before .before .before .before .before .before .before .loop .inv .1 .most in
-    let h = c .before .before .before .before .before .before .before .before .before .before .loop-test .taken in
+    let k = c .before .before .before .before .before .before .before .before .before .before .before .before .loop .inv .1 .most in
+    let h = c .before .before .before .before .before .before .before .before .before .before .before .loop-test .taken in
     omega (arith, h, k)
 
 loop-less-5 : tie.Need-loop-less-5 Inv-loop μ-loop
@@ -220,7 +220,7 @@ loop-again-5 c =
     let E = c .before .before .before .before .before .before .before .before .before in
     let a = E .before .before .before .before .args in
     let l = E .before .before .before .loop in
-    let t = next-told (l .c) _ _ _ _ (l .inv .0) (ap ofAsked (sym (c .before .before .before .before .before .before .before .a .given .1)) ∙ E .event-of .ensures) (c .before .before .next .ensures) (c .before .row4 .ensures) in
+    let t = next-told (l .c) _ _ _ _ (l .inv .0) (ap ofAsked (sym (c .before .before .before .before .before .before .before .a .given .1)) ∙ E .event-of .ensures) (c .before .before .next .ensures) (c .row-after4 .ensures) in
     (t .0, run-turns (a .s) (a .t2) (a .n) (l .c) _ (l .out) (l .i) _ _ (E .before .before .loop-test .taken) (l .inv .1) (t .1))
 
 run-of-requires : tie.Need-run-of-requires Inv-loop μ-loop
@@ -251,28 +251,28 @@ along-spec =
     way-of-requires
     enum-told-2
     idle-requires
-    row-requires
+    row-after-requires
     mul-t30
     element-set-from-out-2
     loop-less-2
     loop-again-2
     enum-known-w
     beat-requires
-    row-requires-2
+    row-after-requires-2
     mul-t34
     element-set-from-out-3
     loop-less-3
     loop-again-3
     enum-known-w-2
     space-requires
-    row-requires-3
+    row-after-requires-3
     mul-t38
     element-set-from-out-4
     loop-less-4
     loop-again-4
     enum-told-3
     next-requires
-    row-requires-4
+    row-after-requires-4
     mul-t42
     element-set-from-out-5
     loop-less-5
