@@ -318,6 +318,8 @@ struct hullathan_answer hullathan_call(struct hullathan_station *s, unsigned cha
  * The first b->len events of b->events, one after the other, each answered in b->answers as hullathan_call
  * would answer it; after a refused one the next goes on. Done; or refused by 1 where *s is no sound station or
  * len is above 64: then nothing is changed. The len, the events and the answers beyond len stay as they were.
+ * The station is written anew, also where every event was refused: what is no part of it (places beyond a
+ * count, numbers marked absent) then holds zeros.
  */
 unsigned char hullathan_run(struct hullathan_station *s, struct hullathan_batch *b);
 

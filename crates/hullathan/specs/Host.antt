@@ -36,11 +36,11 @@ use Rattle.hullathan.specs.declared.PlainReading.{PlainReading}
 abbrev pub meant : PlainStation → Model.Station
 meant p = view (stationOf p)
 
--- refusal 1 says of a form that this is false: it is a station's, and the station is sound
+-- refusal 1 says of a form that this is false: it is a station's, and the station is sound. (At a switch it asks for `choiceSound` besides.)
 abbrev pub good : PlainStation → Bool
 good p = isStation p && sound standard (stationOf p)
 
--- no number stands in the form that its station has not: with what it means, every byte of it is fixed
+-- the form is that of its own station: what is no part of a state is empty. With what it means, every number of it is fixed (`Canonical` of plain_station/specs)
 abbrev pub Neat : PlainStation → Type 0
 Neat p = p ≡ plainStation (stationOf p)
 
@@ -113,7 +113,7 @@ rowOf o = record {
 abbrev pub barred : PlainAnswer
 barred = record { code = 129; «dit_ms» = nought; «dah_ms» = nought; serial = 0; challengers = 0; left = padded 9 []; «left_len» = 0 }
 
--- ---- a fresh station: what `hullathan_start` leaves, and its code
+-- ---- a flag that a host hands in: 0 no, anything else yes
 
 abbrev pub switches : ℕ → Bool
 switches n = not (eqb n 0)
@@ -127,7 +127,7 @@ pub record Answers (e : Option Event) (p : PlainStation) (r : PlainAnswer) (q : 
   pub few : good p ≡ true → length (asked (meant p) e .answer .departures) ≤ 9
   -- a refused call leaves every byte as it was
   pub kept : good p ≡ true → taken (asked (meant p) e .answer .code) ≡ false → q ≡ p
-  -- an accepted one leaves the defined station, sound, and nothing else
+  -- an accepted one leaves the defined station, sound, and what is no part of it empty
   pub state : good p ≡ true → meant q ≡ asked (meant p) e .station
   pub still : good p ≡ true → good q ≡ true
   pub neat : good p ≡ true → taken (asked (meant p) e .answer .code) ≡ true → Neat q
@@ -163,7 +163,7 @@ unfoldable pub Few : List Model.Outcome → Type 0
 Few [] = Unit {0}
 Few (o ∷ l) = (length (o .answer .departures) ≤ 9) × Few l
 
--- the events of b on the form p: the code, the form that is left, and the batch
+-- the events of b on the form p: the code, the form that is left, and the batch. The form is written anew, also where every event was refused: what is no part of a state is empty then
 pub record Runs (p : PlainStation) (b : PlainBatch) (code : ℕ) (q : PlainStation) (c : PlainBatch) : Type 0 where
   pub unsound : runnable p b ≡ false → (code ≡ 129) × (q ≡ p) × (c ≡ b)
   pub done : runnable p b ≡ true → code ≡ 0

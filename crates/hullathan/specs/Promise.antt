@@ -1,6 +1,6 @@
 -- Demand 3, of every list of calls and batches that a host makes. Definitions only. Lists of turns and of calls stand with the latest first, the events of one batch with the first first.
 use mathlib.Core.Path.{_≡_}
-use mathlib.Core.Bool.{Bool, true, cond}
+use mathlib.Core.Bool.{Bool, true, false, cond}
 use mathlib.Core.List.{List, [], _∷_, map}
 use mathlib.Core.Option.{Option, none, some}
 use Prim.Native.Nat.{ℕ, _-_}
@@ -106,7 +106,7 @@ pub record Promised (width : ℕ) (switching : Bool) (first : PlainStation) : Ty
 -- ---- a start: its code, the fresh station that it leaves, and what it promises. "number 3 hands back a fresh width 1 state": one that does not switch
 pub record Begins (width switching code : ℕ) (q : PlainStation) : Type 0 where
   pub says : code ≡ cond (leb width widest) 0 131
-  pub state : meant q ≡ cond (leb width widest) (Model.fresh width (switches switching)) (Model.fresh 1 (switches 0))
+  pub state : meant q ≡ cond (leb width widest) (Model.fresh width (switches switching)) (Model.fresh 1 false)
   pub still : good q ≡ true
   pub neat : Neat q
-  pub promise : Promised (cond (leb width widest) width 1) (cond (leb width widest) (switches switching) (switches 0)) q
+  pub promise : Promised (cond (leb width widest) width 1) (cond (leb width widest) (switches switching) false) q

@@ -40,7 +40,7 @@ pub(crate) fn no_answer() -> PlainAnswer
     }
 }
 
-// Whether no R stands before a code.
+// Whether a code is that of an accepted call.
 pub(crate) fn is_taken(c: Code) -> bool
     ensures { λ r. ⌜ r ≡ taken c ⌝ }
 {

@@ -35,7 +35,7 @@ pub fn is_good(p: PlainStation, s: Station) -> bool
     false
 }
 
-// The refusal of a call that no event has: 2, or 12.
+// The refusal of a call whose kind no event has: 2, or 12.
 pub(crate) fn formless(s: Station) -> u8
     ensures { λ r. ⌜ r ≡ cond (full (view s)) 2 12 ⌝ }
 {

@@ -51,7 +51,7 @@ pub struct PlainRival {
     pub gap_score: f32,
 }
 
-// What a display and a log need of a station.
+// What a display and a log need of a station. `marks` and `gaps` are those that the bank has counted, `accepted` the calls.
 #[repr(C)]
 pub struct PlainReading {
     pub code: u8,

@@ -48,7 +48,7 @@ pub fn capped(n: usize, k: usize) -> usize
     if n <= k { n } else { k }
 }
 
-// Whether each mark of the ring was classed: what lies beyond the count is no part of a tracker.
+// Whether the class of each mark of the ring is a flag: what lies beyond the count is no part of a tracker.
 pub(crate) fn is_ring(p: PlainTracker) -> bool
     ensures { λ r. ⌜ r ≡ isRing p ⌝ }
 {
