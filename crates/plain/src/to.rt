@@ -3,7 +3,6 @@ use crate::PlainBank;
 use crate::PlainDeparture;
 use crate::PlainHypothesis;
 use crate::PlainRecord;
-use crate::from::no_hypothesis;
 use crate::from::no_record;
 use bank::TimingBank;
 use bank_model::Cause;
@@ -11,6 +10,7 @@ use bank_model::Departure;
 use bank_model::Origin;
 use bank_model::SwitchRecord;
 use plain_tracker::is::capped;
+use plain_tracker::to::blank_tracker;
 use plain_tracker::to::number_of;
 use plain_tracker::to::or_nought;
 use plain_tracker::to::plain_tracker;
@@ -67,7 +67,20 @@ pub fn plain_hypothesis(h: TimingHypothesis) -> PlainHypothesis
 pub fn blank_hypothesis() -> PlainHypothesis
     ensures { λ r. ⌜ r ≡ blankHyp ⌝ }
 {
-    plain_hypothesis(no_hypothesis())
+    let tracker = blank_tracker();
+    PlainHypothesis {
+        tracker,
+        score: 0.0,
+        gap_score: 0.0,
+        lead_marks: 0,
+        age_marks: 0,
+        origin: 0,
+        retain_marks: 0,
+        reported: 0,
+        ln_lo: 0.0,
+        ln_hi: 0.0,
+        serial: 0,
+    }
 }
 
 // The challengers.

@@ -1,5 +1,5 @@
 -- A form that is a station's, read and written again, is as it was, but for what is no part of a state. Assumes nothing.
-use mathlib.Core.Path.{_≡_, refl, ap}
+use mathlib.Core.Path.{_≡_, refl, ap, sym, _∙_}
 use mathlib.Core.Bool.{Bool, true, false, cond, _&&_}
 use mathlib.Core.List.{List, [], _∷_, map}
 use Prim.Native.Nat.{ℕ, zero, suc}
@@ -187,3 +187,10 @@ returned p e =
       cleared = p .cleared;
       accepted = p .accepted;
     }
+
+-- so a form is that of its own station exactly where what is no part of a state is empty
+pub neat-empty : (p : PlainStation) → isStation p ≡ true → p ≡ plainStation (stationOf p) → p ≡ tidied p
+neat-empty p e h = h ∙ returned p e
+
+pub empty-neat : (p : PlainStation) → isStation p ≡ true → p ≡ tidied p → p ≡ plainStation (stationOf p)
+empty-neat p e h = h ∙ sym (returned p e)

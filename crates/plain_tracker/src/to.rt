@@ -7,6 +7,7 @@ use pair::ClusterPair;
 use ring::RingEntry;
 use tracker::SpeedTracker;
 ghost use mathlib.Core.Path.{_≡_};
+ghost use Rattle.tracker.specs.Parts.{blank};
 ghost use Rattle.plain_tracker.specs.Plain.{asNumber, carried, firstOf, orNought, blankEntry, plainPair, plainEntry, plainTracker};
 
 // A flag as a number.
@@ -134,5 +135,39 @@ pub fn plain_tracker(t: SpeedTracker) -> PlainTracker
         regime: t.regime,
         badlock_recovered: number_of(t.badlock_recovered),
         lo_uncorroborated: number_of(t.lo_uncorroborated),
+    }
+}
+
+// The plain form of a fresh tracker.
+pub fn blank_tracker() -> PlainTracker
+    ensures { λ r. ⌜ r ≡ plainTracker blank ⌝ }
+{
+    let z = blank_entry();
+    let pair = PlainPair {
+        lo: 0.0,
+        hi: 0.0,
+        init: [0.0; 12],
+        init_len: 0,
+        ready: 0,
+        confirmed: 0,
+        placeholder_is_lo: 0,
+        lo_n: 0,
+    };
+    let ring = [z; 12];
+    PlainTracker {
+        pair,
+        ring,
+        ring_len: 0,
+        has_wpm: 0,
+        wpm_ema: 0.0,
+        recent: [0.0; 5],
+        recent_len: 0,
+        has_egap: 0,
+        mu_egap_ms: 0.0,
+        has_hint: 0,
+        ratio_hint: 0.0,
+        regime: 0,
+        badlock_recovered: 0,
+        lo_uncorroborated: 0,
     }
 }
