@@ -17,7 +17,7 @@ use lib.Ieee.Exact.{HasValue}
 use lib.Ieee.Nearest.{div-same}
 use lib.Ieee.Scale.{finite}
 use borrow.Author.Tests.{ltb-true, ltb-false, le-leb, lt-leb}
-use Rattle.numbers.specs.Log.{digits, rise, fall, lead, fixed, scaled, lnOf}
+use Rattle.numbers.specs.Log.{digits, rise, fall, lead, fixed, scaled, lnOf, Begun}
 use Rattle.numbers.specs.Parts.{Parted}
 use Rattle.numbers.specs.declared.rounding.Parts.{Parts}
 use Rattle.numbers.proofs.Packs.{size-exact}
@@ -248,3 +248,30 @@ module _ (v : Float) (sig j z t : ℕ) (G : Logged v sig j) (Z : z ≡ 11) (TL :
     where
       step : (x : ℕ) → x < 18035507200 → 18035507200 - x ≡ suc (18035507200 - suc x)
       step x k = omega arith
+
+-- ---- the logarithm from what the code has for the larger part
+pub scaled-over : (h : ℕ) (r : Float) → 18035507200 ≤ h → r ≡ round binary32 false ((h - 18035507200) * 2977044472) (2 ^ 56) → r ≡ scaled (minus h 18035507200)
+scaled-over h r k e = e ∙ ap scaled (sym (minus-yes h 18035507200 k))
+
+pub scaled-under : (h : ℕ) (r : Float) → h < 18035507200 → r ≡ round binary32 true ((18035507200 - h) * 2977044472) (2 ^ 56) → r ≡ scaled (minus h 18035507200)
+scaled-under h r k e = e ∙ ap (λ (x : ℕ). round binary32 true (x * 2977044472) (2 ^ 56)) (step h k) ∙ ap scaled (sym (minus-no h 18035507200 k))
+  where
+    step : (x : ℕ) → x < 18035507200 → 18035507200 - x ≡ suc (18035507200 - suc x)
+    step x h = omega arith
+
+-- where it begins
+pub begun : (v : Float) (sig j z : ℕ) → Logged v sig j → z ≡ 11 → Begun v (sig * 2 ^ z % 2 ^ 64 / 2 ^ 32) (j + 64 - z)
+begun v sig j z g e =
+    let k = lead-31 sig z (g .small) e in
+    let i : j + 64 - z ≡ j + 53 = omega arith in
+    let s = spread sig (g .full) (g .small) in
+    record {
+      low = subst (λ (x : ℕ). 2 ^ 31 ≤ x) (sym k) (s .0);
+      high = subst (λ (x : ℕ). x < 2 ^ 32) (sym k) (s .1);
+      least = let a = g .least in omega arith;
+      most = let a = g .most in omega arith;
+      is = λ t r. ap (λ (x : ℕ). scaled (minus (x * 2 ^ 24 + t) (1075 * 2 ^ 24))) i ∙ g .is t (r ∙ ap (λ (x : ℕ). digits 24 x 0) k);
+    }
+  where
+    spread : (x : ℕ) → 2 ^ 52 ≤ x → x < 2 ^ 53 → (2 ^ 31 ≤ x / 2 ^ 21) × (x / 2 ^ 21 < 2 ^ 32)
+    spread x a b = (omega arith, omega arith)

@@ -6,7 +6,7 @@ use native.Mathlib.Nat.{le-trans, lt-of-lt-of-le, lt-of-le-of-lt, le-of-lt, mul-
 use native.Mathlib.Numerals.{add-one}
 use native.Mathlib.Omega.{arith}
 use lib.Dec.{leb, lit≤, lit<}
-use lib.Pow.{pow-pos}
+use lib.Pow.{pow-mono, pow-pos}
 use borrow.Author.Tests.{leb-true, leb-false}
 use Rattle.numbers.specs.Log.{squared, digit, next, digits}
 
@@ -77,3 +77,25 @@ more t d i k h = subst (λ (x : ℕ). 2 * t + d < x) (sym (ap (λ (x : ℕ). 2 ^
   where
     go : (p : ℕ) → t < p → 2 * t + d < 2 * p
     go p l = omega arith
+
+-- ---- a loop over the digits of w: y keeps its leading one at bit 31, t has i digits, and the digits that are left, after t, make the answer
+abbrev pub Good : ℕ → ℕ → ℕ → ℕ → Type 0
+Good w y t i = (i ≤ 24) × (2 ^ 31 ≤ y) × (y < 2 ^ 32) × (t < 2 ^ i) × (digits (24 - i) y t ≡ digits 24 w 0)
+
+-- t stays below 2 ^ 24
+pub low : (t i : ℕ) → i ≤ 24 → t < 2 ^ i → t < 2 ^ 24
+low t i h l = lt-of-lt-of-le l (pow-mono h)
+
+pub bit : (w y t i : ℕ) → Good w y t i → squared y / 2 ^ 32 ≤ 1
+bit w y t i g = bit-le (squared y) (squared-lt y (g .1) (g .2))
+
+pub again : (w y t i : ℕ) → Good w y t i → i < 24 → Good w (squared y / 2 ^ (squared y / 2 ^ 32)) (2 * t + squared y / 2 ^ 32) (i + 1)
+again w y t i g h =
+    let k = turned-in y (g .1) (g .2) in
+    (omega arith, k .0, k .1, more t (squared y / 2 ^ 32) i (bit w y t i g) (g .3), turned y (g .1) (g .2) i t h ∙ g .4)
+
+pub doubled : (t d : ℕ) → t < 2 ^ 24 → d ≤ 1 → 2 * t + d < 2 ^ 64
+doubled t d h k = omega arith
+
+pub few : (d : ℕ) → d ≤ 1 → d < 64
+few d h = omega arith

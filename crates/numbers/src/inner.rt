@@ -1,5 +1,6 @@
 // The logarithm and the roots as the layers above call them, which know what they hand in.
 use crate::log::log_digits;
+use crate::log::two_digits;
 use crate::root::pattern_below;
 use crate::root::positive_root32;
 use crate::root::positive_root64;
@@ -8,9 +9,10 @@ use crate::rounding::take_apart;
 ghost use mathlib.Core.Path.{_≡_};
 ghost use lib.Dec.{T};
 ghost use mathlib.Core.Bool.{not};
-ghost use lib.Ieee.{binary32, binary64, isNan, lt};
+ghost use lib.Ieee.{binary32, binary64, isNan, lt, minus};
+ghost use Prim.Native.Nat.{_+_, _*_, _^_, _<_, _≤_};
 ghost use lib.Ieee.Positive.{positive};
-ghost use Rattle.numbers.specs.Log.{lnOf};
+ghost use Rattle.numbers.specs.Log.{Begun, lnOf, scaled};
 ghost use Rattle.numbers.specs.Root.{sqrtOf};
 
 // The natural logarithm of a v that is finite and above zero.
@@ -29,6 +31,57 @@ pub fn ln_of(v: f32) -> f32
         return ratio32(false, (hi - lo) * 2977044472, 56);
     }
     ratio32(true, (lo - hi) * 2977044472, 56)
+}
+
+// Where a logarithm begins: the leading one brought to bit 31, and the exponent, 1075 more than it is.
+pub(crate) struct Lead {
+    pub y: u64,
+    pub e: u64,
+}
+
+// Where the logarithm of a v that is finite and above zero begins.
+pub(crate) fn lead_of(v: f32) -> Lead
+    requires { ⌜ T (positive v) ⌝ }
+    ensures { λ r. ⌜ Begun v (r .y) (r .e) ⌝ }
+{
+    let p = take_apart(v as f64);
+    let z = u64::leading_zeros(p.sig);
+    Lead {
+        y: (p.sig << z) >> 32,
+        e: (p.j as u64) + 64 - z as u64,
+    }
+}
+
+// The logarithm from the exponent and the digits.
+pub(crate) fn log_from(e: u64, t: u64) -> f32
+    requires { ⌜ (926 ≤ e) × (e < 1203) ⌝ }
+    requires { ⌜ t < 2 ^ 24 ⌝ }
+    ensures { λ r. ⌜ r ≡ scaled (minus (e * 2 ^ 24 + t) (1075 * 2 ^ 24)) ⌝ }
+{
+    let hi = e * 16777216 + t;
+    if 18035507200 <= hi {
+        return ratio32(false, (hi - 18035507200) * 2977044472, 56);
+    }
+    ratio32(true, (18035507200 - hi) * 2977044472, 56)
+}
+
+// Two logarithms.
+pub struct Logs {
+    pub a: f32,
+    pub b: f32,
+}
+
+// The natural logarithms of two numbers that are finite and above zero.
+pub fn ln_two(v: f32, w: f32) -> Logs
+    requires { ⌜ T (positive v) × T (positive w) ⌝ }
+    ensures { λ r. ⌜ (r .a ≡ lnOf v) × (r .b ≡ lnOf w) ⌝ }
+{
+    let k = lead_of(v);
+    let m = lead_of(w);
+    let t = two_digits(k.y, m.y);
+    let a = log_from(k.e, t.a);
+    let b = log_from(m.e, t.b);
+    Logs { a, b }
 }
 
 // The root of an f32 as Rust's `sqrt` has it on every value: NaN has none, nor what is below zero.

@@ -25,6 +25,37 @@ pub(crate) fn log_digits(y: u64) -> u64
     t
 }
 
+// The digits of two logarithms.
+pub struct Digits {
+    pub a: u64,
+    pub b: u64,
+}
+
+// The same of two numbers: the steps of one do not wait for those of the other.
+pub(crate) fn two_digits(y: u64, z: u64) -> Digits
+    requires { ⌜ (2 ^ 31 ≤ y) × (y < 2 ^ 32) ⌝ }
+    requires { ⌜ (2 ^ 31 ≤ z) × (z < 2 ^ 32) ⌝ }
+    ensures { λ r. ⌜ ((r .a ≡ digits 24 y 0) × (r .a < 2 ^ 24)) × ((r .b ≡ digits 24 z 0) × (r .b < 2 ^ 24)) ⌝ }
+{
+    let mut y = y;
+    let mut z = z;
+    let mut a: u64 = 0;
+    let mut b: u64 = 0;
+    let mut n: u32 = 0;
+    while n < 24 {
+        let s = (y * y) >> 31;
+        let p = s >> 32;
+        y = s >> p;
+        a = 2 * a + p;
+        let r = (z * z) >> 31;
+        let q = r >> 32;
+        z = r >> q;
+        b = 2 * b + q;
+        n += 1;
+    }
+    Digits { a, b }
+}
+
 // The natural logarithm of v, refused by 10.
 pub fn ln(v: f32) -> Answer32
     ensures { λ r. ⌜ said32 r ≡ lnSaid v ⌝ }

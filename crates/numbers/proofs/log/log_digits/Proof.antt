@@ -7,33 +7,15 @@ use native.Mathlib.Omega.{arith}
 use lib.Dec.{lit≤}
 use lib.Pow.{pow-mono}
 use Rattle.numbers.specs.Log.{digits, squared}
-use Rattle.numbers.proofs.LogLaws.{square-fits, squared-lt, bit-le, turned, turned-in, none-left, more}
+use Rattle.numbers.proofs.LogLaws.{Good, again, bit, doubled, few, low, none-left, square-fits}
 use Rattle.numbers.proofs.log.log_digits.Statement.{statement}
 use Rattle.numbers.proofs.log.log_digits.Tie as tie
-
-abbrev Good : ℕ → ℕ → ℕ → ℕ → Type 0
-Good w y t i = (i ≤ 24) × (2 ^ 31 ≤ y) × (y < 2 ^ 32) × (t < 2 ^ i) × (digits (24 - i) y t ≡ digits 24 w 0)
 
 abbrev Inv-loop : tie.InvT-loop
 Inv-loop y y₀ t₀ i₀ y' t i = Good y y' t i
 
 abbrev μ-loop : tie.MeasureT-loop
 μ-loop y y₀ t₀ i₀ y' t i = 24 - i
-
--- t stays below 2 ^ 24
-low : (t i : ℕ) → i ≤ 24 → t < 2 ^ i → t < 2 ^ 24
-low t i h l = lt-of-lt-of-le l (pow-mono h)
-
-bit : (w y t i : ℕ) → Good w y t i → squared y / 2 ^ 32 ≤ 1
-bit w y t i g = bit-le (squared y) (squared-lt y (g .1) (g .2))
-
-again : (w y t i : ℕ) → Good w y t i → i < 24 → Good w (squared y / 2 ^ (squared y / 2 ^ 32)) (2 * t + squared y / 2 ^ 32) (i + 1)
-again w y t i g h =
-    let k = turned-in y (g .1) (g .2) in
-    (omega arith, k .0, k .1, more t (squared y / 2 ^ 32) i (bit w y t i g) (g .3), turned y (g .1) (g .2) i t h ∙ g .4)
-
-doubled : (t d : ℕ) → t < 2 ^ 24 → d ≤ 1 → 2 * t + d < 2 ^ 64
-doubled t d h k = omega arith
 
 loop-holds : tie.Need-loop-holds Inv-loop μ-loop
 loop-holds c = (lit≤ tt, c .pre .0, c .pre .1, lit≤ tt, refl)
@@ -43,9 +25,6 @@ mul-s c = let g = c .before .loop .inv in record { fits = square-fits (c .before
 
 shr-y : tie.Need-shr-y Inv-loop μ-loop
 shr-y c = let l = c .before .loop in few (squared (l .y) / 2 ^ 32) (bit _ (l .y) (l .t) (l .i) (l .inv))
-  where
-    few : (d : ℕ) → d ≤ 1 → d < 64
-    few d h = omega arith
 
 mul-t : tie.Need-mul-t Inv-loop μ-loop
 mul-t c = let l = c .before .loop in let b = low (l .t) (l .i) (l .inv .0) (l .inv .3) in omega arith
