@@ -2,8 +2,7 @@
 use crate::TimingBank;
 use bank_model::inner::scores::decayed;
 use bank_model::inner::scores::gap_ll;
-use bank_model::inner::scores::log_of;
-use numbers::inner::ln_of;
+use bank_model::inner::scores::gap_logs;
 use rival::inner::each::gap_one;
 use tracker::SpeedTracker;
 ghost use mathlib.Core.Path.{_≡_};
@@ -26,9 +25,9 @@ pub fn hear_space(b: TimingBank, p: SpeedTracker, u: f32, d: f32) -> TimingBank
     requires { ⌜ (u ≡ ditEstimate standard (Tracked.view p)) × T (positive (larger u milli)) ⌝ }
     ensures { λ r. ⌜ (view r ≡ heardGap standard (view b) (Tracked.view p) d) × Sturdy r ⌝ }
 {
-    let x = ln_of(d);
-    let v = log_of(u);
-    let l = gap_ll(x, v);
+    let k = gap_logs(d, u);
+    let x = k.a;
+    let l = gap_ll(x, k.b);
     let s = decayed(b.primary_score, l);
     let g = decayed(b.primary_gap_score, l);
     let n = b.challengers_len;

@@ -1,10 +1,13 @@
 // How well a mark or a gap fits, and twins.
+use numbers::inner::Logs;
 use numbers::inner::ln_of;
+use numbers::inner::ln_two;
 use order::abs32;
 use order::max32;
 ghost use mathlib.Core.Path.{_≡_};
 ghost use lib.Dec.{T};
 ghost use lib.Ieee.Positive.{positive};
+ghost use Rattle.numbers.specs.Log.{lnOf};
 ghost use Rattle.order.specs.Order.{larger};
 ghost use Rattle.bank_model.specs.Constants.{milli};
 ghost use Rattle.bank_model.specs.Scores.{logOf, fit, markFit, gapFit, decayed, near, twins};
@@ -23,6 +26,22 @@ pub fn log_of(v: f32) -> f32
     ensures { λ r. ⌜ r ≡ logOf v ⌝ }
 {
     ln_of(max32(v, 0.001))
+}
+
+// The logarithms of two centroids.
+pub fn centroid_logs(lo: f32, hi: f32) -> Logs
+    requires { ⌜ T (positive (larger lo milli)) × T (positive (larger hi milli)) ⌝ }
+    ensures { λ r. ⌜ (r .a ≡ logOf lo) × (r .b ≡ logOf hi) ⌝ }
+{
+    ln_two(max32(lo, 0.001), max32(hi, 0.001))
+}
+
+// The logarithms of a gap and of a unit.
+pub fn gap_logs(d: f32, unit: f32) -> Logs
+    requires { ⌜ T (positive d) × T (positive (larger unit milli)) ⌝ }
+    ensures { λ r. ⌜ (r .a ≡ lnOf d) × (r .b ≡ logOf unit) ⌝ }
+{
+    ln_two(d, max32(unit, 0.001))
 }
 
 // How well x fits the centre c.

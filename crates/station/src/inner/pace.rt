@@ -7,7 +7,7 @@ use crate::inner::after::refusal_of;
 use bank::inner::beat::hear_beat;
 use bank::inner::space::hear_space;
 use bank::inner::streak::is_high;
-use bank_model::inner::scores::log_of;
+use bank_model::inner::scores::centroid_logs;
 use rival::inner::each::hear_one;
 use station_model::Code;
 use station_model::Event;
@@ -122,10 +122,9 @@ pub fn beat(s: Station, e: Event, d: f32) -> Outcome
 {
     let p = on_mark(s.primary, d);
     let q = p.pair;
-    let lo = log_of(q.lo);
-    let hi = log_of(q.hi);
+    let k = centroid_logs(q.lo, q.hi);
     let side = is_high(q, d);
-    let t = hear_beat(s.bank, p, side, lo, hi, d);
+    let t = hear_beat(s.bank, p, side, k.a, k.b, d);
     accept(s, p, s.serial, t, Code::Done)
 }
 

@@ -20,23 +20,17 @@ use Rattle.bank.proofs.inner.space.hear_space.Reads as reads
 use Rattle.bank.proofs.inner.space.hear_space.Lts as lts
 use Rattle.bank_model.proofs.inner.scores.decayed.Reads as decayed-reads
 use Rattle.bank_model.proofs.inner.scores.gap_ll.Reads as gap-ll-reads
-use Rattle.bank_model.proofs.inner.scores.log_of.Reads as log-of-reads
-use Rattle.numbers.proofs.inner.ln_of.Reads as ln-of-reads
+use Rattle.bank_model.proofs.inner.scores.gap_logs.Reads as gap-logs-reads
 use Rattle.rival.proofs.inner.each.gap_one.Reads as gap-one-reads
 
 abbrev Inv-loop : tie.InvT-loop
-Inv-loop u d x v l s g n c₀ i₀ c i = Mapping (gapped standard d) c₀ c i × (T (duration d) × (x ≡ lnOf d))
+Inv-loop u d x l s g n c₀ i₀ c i = Mapping (gapped standard d) c₀ c i × (T (duration d) × (x ≡ lnOf d))
 
 abbrev μ-loop : tie.MeasureT-loop
-μ-loop u d x v l s g n c₀ i₀ c i = n - i
+μ-loop u d x l s g n c₀ i₀ c i = n - i
 
--- src/inner/space.rt:29:9
-ln-of-requires : tie.Need-ln-of-requires Inv-loop μ-loop
-ln-of-requires c κs = duration-positive (c .args .d) (inside durationMin durationMax (c .args .d) (c .pre .1 .0))
-
--- src/inner/space.rt:30:9
-log-of-requires : tie.Need-log-of-requires Inv-loop μ-loop
-log-of-requires c κs = search needs
+gap-logs-requires : tie.Need-gap-logs-requires Inv-loop μ-loop
+gap-logs-requires c κs = (duration-positive (c .args .d) (inside durationMin durationMax (c .args .d) (c .pre .1 .0)), c .pre .1 .1 .1)
 
 -- src/inner/space.rt:31:9
 gap-ll-requires : tie.Need-gap-ll-requires Inv-loop μ-loop
@@ -57,8 +51,8 @@ add-c c = search needs
 -- src/inner/space.rt:42:5
 loop-holds : tie.Need-loop-holds Inv-loop μ-loop
 loop-holds c =
-    let s = c .before .before .before .before .before .before in
-    (map-begins _ _ (s .pre .0 .0 .steady .crew), (s .pre .1 .0, c .before .before .before .before .before .ln-of .ensures))
+    let s = c .before .before .before .before .before in
+    (map-begins _ _ (s .pre .0 .0 .steady .crew), (s .pre .1 .0, c .before .before .before .before .gap-logs .ensures .0))
 
 -- src/inner/space.rt:43:17
 mul-h : tie.Need-mul-h Inv-loop μ-loop
@@ -97,8 +91,8 @@ returns : tie.Need-returns Inv-loop μ-loop
 returns c =
     let a = c .before .before in
     let l = a .before .before .before in
-    let s = l .before .before .before in
-    space-is (s .args .b) (s .pre .0 .0) (Tracked.view (s .args .p)) (s .args .d) _ _ (inside durationMin durationMax (s .args .d) (s .pre .1 .0)) (gap-scored standard (Tracked.view (s .args .p)) (s .args .b .«primary_score») _ _ _ _ _ (s .args .d) (a .before .before .decayed .ensures) (l .gap-ll .ensures) (l .before .log-of .ensures) (s .pre .1 .1 .0) (l .before .before .ln-of .ensures)) (gap-scored standard (Tracked.view (s .args .p)) (s .args .b .«primary_gap_score») _ _ _ _ _ (s .args .d) (a .before .decayed2 .ensures) (l .gap-ll .ensures) (l .before .log-of .ensures) (s .pre .1 .1 .0) (l .before .before .ln-of .ensures)) (c .before .loop .c) (map-ends _ _ _ _ (c .loop-test .left) (c .before .loop .inv .0))
+    let s = l .before .before in
+    space-is (s .args .b) (s .pre .0 .0) (Tracked.view (s .args .p)) (s .args .d) _ _ (inside durationMin durationMax (s .args .d) (s .pre .1 .0)) (gap-scored standard (Tracked.view (s .args .p)) (s .args .b .«primary_score») _ _ _ _ _ (s .args .d) (a .before .before .decayed .ensures) (l .gap-ll .ensures) (l .before .gap-logs .ensures .1) (s .pre .1 .1 .0) (l .before .gap-logs .ensures .0)) (gap-scored standard (Tracked.view (s .args .p)) (s .args .b .«primary_gap_score») _ _ _ _ _ (s .args .d) (a .before .decayed2 .ensures) (l .gap-ll .ensures) (l .before .gap-logs .ensures .1) (s .pre .1 .1 .0) (l .before .gap-logs .ensures .0)) (c .before .loop .c) (map-ends _ _ _ _ (c .loop-test .left) (c .before .loop .inv .0))
 
 pub hear-space-spec : {M : Type 1} → statement M
 hear-space-spec =
@@ -106,8 +100,7 @@ hear-space-spec =
     (tie.spec
     Inv-loop
     μ-loop
-    ln-of-requires
-    log-of-requires
+    gap-logs-requires
     gap-ll-requires
     decayed-requires
     decayed-requires-2

@@ -12,7 +12,7 @@ use Rattle.station.proofs.inner.pace.beat.Reads as reads
 use Rattle.station.proofs.inner.pace.beat.Lts as lts
 use Rattle.bank.proofs.inner.beat.hear_beat.Reads as hear-beat-reads
 use Rattle.bank.proofs.inner.streak.is_high.Reads as is-high-reads
-use Rattle.bank_model.proofs.inner.scores.log_of.Reads as log-of-reads
+use Rattle.bank_model.proofs.inner.scores.centroid_logs.Reads as centroid-logs-reads
 use Rattle.station.proofs.inner.accept.accept.Reads as accept-reads
 use Rattle.tracker.proofs.inner.mark.on_mark.Reads as on-mark-reads
 
@@ -20,13 +20,12 @@ use Rattle.tracker.proofs.inner.mark.on_mark.Reads as on-mark-reads
 on-mark-requires : tie.Need-on-mark-requires
 on-mark-requires c κs = let s = c in (s .pre .0 .solid .primary, ready-for (s .args .s) (s .args .e) (s .pre .0) (s .pre .1 .free) (s .pre .1 .is) .1)
 
--- src/inner/pace.rt:125:9
-log-of-requires : tie.Need-log-of-requires
-log-of-requires c κs = let k = c .before .on-mark in let s = c .before .before in dit-log (k .result) (k .ensures .1) (beat-ready (s .args .s) (s .pre .1 .heard) (s .args .d) (k .result) (k .ensures .0))
-
--- src/inner/pace.rt:126:9
-log-of-requires-2 : tie.Need-log-of-requires-2
-log-of-requires-2 c κs = let k = c .before .before .on-mark in let s = c .before .before .before in dah-log (k .result) (k .ensures .1) (beat-ready (s .args .s) (s .pre .1 .heard) (s .args .d) (k .result) (k .ensures .0))
+centroid-logs-requires : tie.Need-centroid-logs-requires
+centroid-logs-requires c κs =
+    let k = c .before .on-mark in
+    let s = c .before .before in
+    let r = beat-ready (s .args .s) (s .pre .1 .heard) (s .args .d) (k .result) (k .ensures .0) in
+    (dit-log (k .result) (k .ensures .1) r, dah-log (k .result) (k .ensures .1) r)
 
 -- src/inner/pace.rt:127:9
 is-high-requires : tie.Need-is-high-requires
@@ -35,23 +34,23 @@ is-high-requires c κs = search needs
 -- src/inner/pace.rt:128:9
 hear-beat-requires : tie.Need-hear-beat-requires
 hear-beat-requires c κs =
-    let s = c .before .before .before .before .before in
+    let s = c .before .before .before .before in
     let g = ready-for (s .args .s) (s .args .e) (s .pre .0) (s .pre .1 .free) (s .pre .1 .is) in
-    ((s .pre .0 .solid .bank, g .0 .1 .bank), (g .1, ((c .before .before .log-of .ensures, c .before .log-of2 .ensures), (c .is-high .ensures, s .pre .1 .few))))
+    ((s .pre .0 .solid .bank, g .0 .1 .bank), (g .1, (c .before .centroid-logs .ensures, (c .is-high .ensures, s .pre .1 .few))))
 
 -- src/inner/pace.rt:129:5
 accept-requires : tie.Need-accept-requires
 accept-requires c κs =
-    let s = c .before .before .before .before .before .before in
+    let s = c .before .before .before .before .before in
     let h = c .hear-beat .ensures in
-    (ready-for (s .args .s) (s .args .e) (s .pre .0) (s .pre .1 .free) (s .pre .1 .is) .0, (c .before .before .before .before .before .on-mark .ensures .1, (h .sturdy, h .few)))
+    (ready-for (s .args .s) (s .args .e) (s .pre .0) (s .pre .1 .free) (s .pre .1 .is) .0, (c .before .before .before .before .on-mark .ensures .1, (h .sturdy, h .few)))
 
 -- src/inner/pace.rt:119:1
 returns : tie.Need-returns
 returns c =
     let h = c .before .hear-beat in
-    let k = c .before .before .before .before .before .before .on-mark in
-    let s = c .before .before .before .before .before .before .before in
+    let k = c .before .before .before .before .before .on-mark in
+    let s = c .before .before .before .before .before .before in
     let m = view (s .args .s) in
     let n = s .pre .1 .heard in
     stands-next (s .args .s) (s .args .e) (s .pre .0) (s .pre .1 .free) (s .pre .1 .is) (c .accept .result)
@@ -62,8 +61,7 @@ beat-spec =
     tie.close
     (tie.spec
     on-mark-requires
-    log-of-requires
-    log-of-requires-2
+    centroid-logs-requires
     is-high-requires
     hear-beat-requires
     accept-requires
