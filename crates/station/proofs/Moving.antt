@@ -1,8 +1,8 @@
--- A station changed in place is what the definitions say, and steady again. Assumes nothing.
+-- A station changed in place is what the definitions say. Assumes nothing.
 use mathlib.Core.Path.{_≡_, refl, ap, sym, _∙_, subst}
 use mathlib.Core.List.{[]}
 use mathlib.Core.Option.{none}
-use Prim.Native.Nat.{ℕ, zero, suc, _+_}
+use Prim.Native.Nat.{ℕ, _+_}
 use native.Mathlib.Omega.{arith}
 use lib.Dec.{T}
 use lib.ListN.{take}
@@ -21,20 +21,18 @@ use Rattle.station_model.specs.declared.Event.{Event}
 use Rattle.station_model.specs.declared.Code.{Code}
 use Rattle.station_model.specs.declared.Code.the-variants.{Done}
 use Rattle.station_model.specs.declared.Counts.{Counts}
-use Rattle.station_model.specs.Station.{Act, ready, gapAct, acted, accepted, refusal, step}
+use Rattle.station_model.specs.Station.{Act, ready, gapAct, accepted, refusal}
 use Rattle.station_model.specs.Station as Model
 use Rattle.station_model.proofs.Lists.{by-cond}
 use Rattle.station.specs.declared.Station.{Station}
 use Rattle.station.specs.declared.Outcome.{Outcome}
 use Rattle.station.specs.View.{view}
-use Rattle.station.specs.Parts.{Allowed, Booked, Open, Solid, Stands, Steady}
-use Rattle.station.specs.After.{Holds, Onward}
+use Rattle.station.specs.Parts.{Allowed, Open, Solid, Stands, Steady}
+use Rattle.station.specs.After.{Holds}
 use Rattle.station.proofs.Tallying.{tallied-none}
 use Rattle.station.proofs.Sounding.{solid-sound}
-use Rattle.station.proofs.Keeping.{booked-accepted, step-accepted}
 use Rattle.station.proofs.Refusing.{Accepted, accepted-of, accepted-open, accepted-fair}
-use Rattle.station.proofs.Watching.{Quiet, quiet-refusal}
-use Rattle.station.proofs.Steadying.{quiet-step}
+use Rattle.station.proofs.Watching.{quiet-refusal}
 
 -- ---- one call that none leaves at
 module _ (s : Station) (p : SpeedTracker) (n : ℕ) (b : TimingBank) (c : Code) where
@@ -65,10 +63,6 @@ none-leave s t r a c d h e f =
 pub gap-quiet : (k : Settings) (m : Model.Station) (d : Float) → (Done ≡ gapAct k m d .code) × (gapAct k m d .told .left ≡ [])
 gap-quiet k m d = by-cond (λ (a : Act). (Done ≡ a .code) × (a .told .left ≡ [])) (ready (m .primary)) (λ x. (refl, refl)) (λ x. (refl, refl))
 
--- the station of an outcome
-pub stands-holds : (r : Outcome) (m : Model.Outcome) → Stands r m → Holds (r .station) (m .station)
-stands-holds r m k = record { is = ap (λ (x : Model.Outcome). x .station) (k .is); primary = k .primary; bank = k .bank }
-
 -- ---- a call on a steady station
 module _ (s : Station) (e : Event) (k : Steady s) where
   module _ (z : refusal (view s) e ≡ 0) where
@@ -77,22 +71,3 @@ module _ (s : Station) (e : Event) (k : Steady s) where
 
     pub ready-for : {f : Event} → e ≡ f → (Solid s × Open s) × Allowed s f
     ready-for q = ((k .solid, accepted-open s e met), subst (λ (x : Event). Allowed s x) q (accepted-fair s e met))
-
-    abbrev done : Event → Model.Station
-    done f = accepted (view s) (acted standard (view s) f) .station
-
-    pub onward : {f : Event} → e ≡ f → (r : Station) → Holds r (done f) → Onward s e r
-    onward q r y =
-        let h : Holds r (done e) = subst (λ (x : Event). Holds r (done x)) (sym q) y in
-        let w : view r ≡ step standard (view s) e .station = h .is ∙ ap (λ (x : Model.Outcome). x .station) (step-accepted standard (view s) e z) in
-        let books : Booked (view r) = subst Booked (sym (h .is)) (booked-accepted standard (view s) e (accepted-open s e met .accepted) (k .solid .books)) in
-        (w, record { solid = record { primary = h .primary; bank = h .bank; books = books }; unready = subst Quiet (sym w) (quiet-step standard (view s) (k .unready) e) })
-
-  kept : (n : ℕ) → (n ≡ 0 → ⊥) → view s ≡ Model.outcome standard (view s) e n .station
-  kept zero h = absurd (h refl)
-  kept (suc n) h = refl
-
-  -- a refused call changes nothing
-  pub unmoved : (refusal (view s) e ≡ 0 → ⊥) → Onward s e s
-  unfolding step
-  unmoved h = (kept (refusal (view s) e) h, k)
