@@ -304,8 +304,8 @@ mod tests {
             switching: Bit::YES,
             primary_score: -1.0,
             primary_gap_score: -2.0,
-            streak_len: 3,
-            streak_gaps_len: 2,
+            streak_len: 4,
+            streak_gaps_len: 4,
             has_side: Bit::YES,
             has_last_gap: Bit::YES,
             last_gap: 9.0,
@@ -324,6 +324,7 @@ mod tests {
             h.serial = 100 + i as u64;
             h.score = -(i as f32);
             h.tracker.recent[4] = i as f32;
+            h.tracker.recent_len = 5;
         }
         for (i, r) in b.log.iter_mut().enumerate() {
             r.to_dit_ms = i as f32;
@@ -334,7 +335,12 @@ mod tests {
         let shown = |b: &Bank| format!("{b:?}");
         assert_eq!(shown(&b), shown(&same(b)));
         (b.challengers_len, b.log_len) = (6, 11);
+        (b.streak_len, b.streak_gaps_len) = (3, 2);
+        b.challengers[5].tracker.recent_len = 4;
         let mut cut = b;
+        cut.streak[3] = 0.0;
+        cut.streak_gaps[2..].fill(0.0);
+        cut.challengers[5].tracker.recent[4] = 0.0;
         cut.challengers[6..].fill(Hypothesis::default());
         cut.log[11..].fill(Record::default());
         assert_eq!(shown(&cut), shown(&same(b)));
