@@ -1,38 +1,21 @@
--- `numbers::log::log_digits` meets its contract. The invariant: y keeps its leading one at bit 31, t has i digits, and the digits that are left, after t, make the answer.
--- Assumes nothing.
-use mathlib.Core.Path.{_≡_, refl, sym, _∙_}
-use Prim.Native.Nat.{ℕ, _+_, _-_, _*_, _/_, _^_, _≤_, _<_}
-use native.Mathlib.Nat.{lt-of-lt-of-le}
+-- `numbers::log::log_digits` meets its contract: `proofs/LogLaws.antt` has the invariant. Assumes nothing.
+use Prim.Native.Nat.{_-_}
 use native.Mathlib.Omega.{arith}
-use lib.Dec.{lit≤}
-use lib.Pow.{pow-mono}
-use Rattle.numbers.specs.Log.{digits, squared}
-use Rattle.numbers.proofs.LogLaws.{Good, again, bit, doubled, few, low, none-left, square-fits}
+use Rattle.numbers.proofs.LogLaws.{Good, begin, fits, again, ended}
 use Rattle.numbers.proofs.log.log_digits.Statement.{statement}
 use Rattle.numbers.proofs.log.log_digits.Tie as tie
 
 abbrev Inv-loop : tie.InvT-loop
-Inv-loop y y₀ t₀ i₀ y' t i = Good y y' t i
+Inv-loop y q₀ i₀ q i = Good y (q .y) (q .t) i
 
 abbrev μ-loop : tie.MeasureT-loop
-μ-loop y y₀ t₀ i₀ y' t i = 24 - i
+μ-loop y q₀ i₀ q i = 24 - i
 
 loop-holds : tie.Need-loop-holds Inv-loop μ-loop
-loop-holds c = (lit≤ tt, c .pre .0, c .pre .1, lit≤ tt, refl)
+loop-holds c = begin (c .args .y) (c .pre .0) (c .pre .1)
 
-mul-s : tie.Need-mul-s Inv-loop μ-loop
-mul-s c = let g = c .before .loop .inv in record { fits = square-fits (c .before .loop .y) (g .1) (g .2) }
-
-shr-y : tie.Need-shr-y Inv-loop μ-loop
-shr-y c = let l = c .before .loop in few (squared (l .y) / 2 ^ 32) (bit _ (l .y) (l .t) (l .i) (l .inv))
-
-mul-t : tie.Need-mul-t Inv-loop μ-loop
-mul-t c = let l = c .before .loop in let b = low (l .t) (l .i) (l .inv .0) (l .inv .3) in omega arith
-
-add-t : tie.Need-add-t Inv-loop μ-loop
-add-t c =
-    let l = c .before .loop in
-    record { fits = doubled (l .t) (squared (l .y) / 2 ^ 32) (low (l .t) (l .i) (l .inv .0) (l .inv .3)) (bit _ (l .y) (l .t) (l .i) (l .inv)) }
+one-digit-requires : tie.Need-one-digit-requires Inv-loop μ-loop
+one-digit-requires c κs = let g = c .before .loop .inv in (g .low, g .high, fits g)
 
 add-i : tie.Need-add-i Inv-loop μ-loop
 add-i c = omega arith
@@ -41,25 +24,12 @@ loop-less : tie.Need-loop-less Inv-loop μ-loop
 loop-less c = omega arith
 
 loop-again : tie.Need-loop-again Inv-loop μ-loop
-loop-again c = let l = c .before .loop in again _ (l .y) (l .t) (l .i) (l .inv) (c .loop-test .taken)
+loop-again c = again (c .before .before .loop .inv) (c .before .loop-test .taken) (c .one-digit .ensures .0) (c .one-digit .ensures .1)
 
 returns : tie.Need-returns Inv-loop μ-loop
-returns c =
-    let l = c .before .loop in
-    (sym (none-left (l .i) (l .y) (l .t) (l .inv .0) (c .loop-test .left)) ∙ l .inv .4, low (l .t) (l .i) (l .inv .0) (l .inv .3))
+returns c = ended (c .before .loop .inv) (c .loop-test .left)
 
 pub log-digits-spec : {M : Type 1} → statement M
 log-digits-spec =
     tie.close
-    (tie.spec
-    Inv-loop
-    μ-loop
-    loop-holds
-    mul-s
-    shr-y
-    mul-t
-    add-t
-    add-i
-    loop-less
-    loop-again
-    returns)
+    (tie.spec Inv-loop μ-loop loop-holds one-digit-requires add-i loop-less loop-again returns)
