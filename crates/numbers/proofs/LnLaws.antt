@@ -1,8 +1,11 @@
--- Where the logarithm of an f32 that is finite and above zero begins, from its parts sig * 2 ^ j / 2 ^ 149 and the leading zeros of sig. Assumes nothing.
+-- Where the logarithm of an f32 that is finite and above zero begins, from its parts sig * 2 ^ j / 2 ^ 149 and the
+-- leading zeros of sig. Assumes nothing.
 use mathlib.Core.Path.{_≡_, refl, sym, ap, _∙_, subst}
 use mathlib.Core.Bool.{Bool, true, false, cond}
 use Prim.Native.Nat.{ℕ, zero, suc, _+_, _-_, _*_, _/_, _%_, _^_, _≤_, _<_}
-use native.Mathlib.Nat.{le-trans, le-of-eq, lt-of-lt-of-le, lt-of-le-of-lt, lt-irrefl, lt-of-not-le, le-of-suc-le-suc, mul-one, mul-assoc, mul-right-comm, mul-le-mul-right, mul-pos, eq-of-mul-eq-mul-right, zero-lt-suc, mod-eq-of-lt, div-one}
+use native.Mathlib.Nat.{le-trans, le-of-eq, lt-of-lt-of-le, lt-of-le-of-lt, lt-irrefl, lt-of-not-le, le-of-suc-le-suc}
+use native.Mathlib.Nat.{mul-one, mul-assoc, mul-right-comm, mul-le-mul-right, mul-pos, eq-of-mul-eq-mul-right}
+use native.Mathlib.Nat.{zero-lt-suc, mod-eq-of-lt, div-one}
 use native.Mathlib.Decide.{decLe}
 use native.Mathlib.Omega.{arith}
 use lib.Dec.{lit≤, lit<}
@@ -60,7 +63,8 @@ minus-same a b c d e = go (decLe b a)
     go (no n) = minus-no a b (omega arith) ∙ ap negsuc (omega arith) ∙ sym (minus-no c d (omega arith))
 
 -- ---- v is m * 2 ^ e, and sig * 2 ^ j / 2 ^ 149 with a sig of i + 1 digits
-module _ (m : ℕ) (e : ℤ) (sig j i : ℕ) (M : 0 < m) (W : m * up e * 2 ^ 149 ≡ sig * 2 ^ j * down e) (lo : 2 ^ i ≤ sig) (hi : sig < 2 ^ suc i) (I : i < 24) where
+module _ (m : ℕ) (e : ℤ) (sig j i : ℕ) (M : 0 < m) (W : m * up e * 2 ^ 149 ≡ sig * 2 ^ j * down e) (lo : 2 ^ i ≤ sig)
+    (hi : sig < 2 ^ suc i) (I : i < 24) where
   abbrev R : ℕ
   R = rise e + 149
 
@@ -84,7 +88,8 @@ module _ (m : ℕ) (e : ℤ) (sig j i : ℕ) (M : 0 < m) (W : m * up e * 2 ^ 149
   lead-is : lead m ≡ sig * 2 ^ (31 - i)
   lead-is =
       div-same (m * 2 ^ 32) (2 ^ size m) (sig * 2 ^ (31 - i)) 1 (pow-pos (size m)) (lit< tt)
-      (mul-one (m * 2 ^ 32) ∙ eq-of-mul-eq-mul-right (2 ^ R) (pow-pos R) (m * 2 ^ 32) (sig * 2 ^ (31 - i) * 2 ^ size m) moved)
+      (mul-one (m * 2 ^ 32)
+      ∙ eq-of-mul-eq-mul-right (2 ^ R) (pow-pos R) (m * 2 ^ 32) (sig * 2 ^ (31 - i) * 2 ^ size m) moved)
       ∙ div-one (sig * 2 ^ (31 - i))
     where
       places : (a b z : ℕ) → z + a ≡ suc i + b → b + 32 ≡ 31 - i + z + a
@@ -106,12 +111,14 @@ module _ (m : ℕ) (e : ℤ) (sig j i : ℕ) (M : 0 < m) (W : m * up e * 2 ^ 149
   pub fixed-is : fixed m e ≡ minus ((j + i) * 2 ^ 24 + digits 24 (sig * 2 ^ (31 - i)) 0) (149 * 2 ^ 24)
   fixed-is =
       ap (λ (y : ℕ). minus ((rise e + size m) * 2 ^ 24 + digits 24 y 0) ((fall e + 1) * 2 ^ 24)) lead-is
-      ∙ minus-same ((rise e + size m) * 2 ^ 24 + t) ((fall e + 1) * 2 ^ 24) ((j + i) * 2 ^ 24 + t) (149 * 2 ^ 24) (go (rise e) (fall e) (size m) t sizes)
+      ∙ minus-same ((rise e + size m) * 2 ^ 24 + t) ((fall e + 1) * 2 ^ 24) ((j + i) * 2 ^ 24 + t) (149 * 2 ^ 24)
+      (go (rise e) (fall e) (size m) t sizes)
     where
       t : ℕ
       t = digits 24 (sig * 2 ^ (31 - i)) 0
 
-      go : (r f z x : ℕ) → z + (r + 149) ≡ suc i + (j + f) → (r + z) * 2 ^ 24 + x + 149 * 2 ^ 24 ≡ (j + i) * 2 ^ 24 + x + (f + 1) * 2 ^ 24
+      go : (r f z x : ℕ) → z + (r + 149) ≡ suc i + (j + f)
+          → (r + z) * 2 ^ 24 + x + 149 * 2 ^ 24 ≡ (j + i) * 2 ^ 24 + x + (f + 1) * 2 ^ 24
       go r f z x a = omega arith
 
 -- ---- the leading zeros z of an f32's significand, and with them where the leading one is brought
@@ -142,20 +149,25 @@ counted sig p h =
 -- the leading one is at bit 31
 module _ (sig z : ℕ) (k : Counted sig z) where
   reached-low : 2 ^ 31 ≤ sig * 2 ^ (31 - k .i)
-  reached-low = le-trans (le-of-eq (ap (λ (x : ℕ). 2 ^ x) (places (k .i) (k .digits)) ∙ pow-add 2 (k .i) (31 - k .i))) (mul-le-mul-right (2 ^ (31 - k .i)) (k .least))
+  reached-low =
+      le-trans (le-of-eq (ap (λ (x : ℕ). 2 ^ x) (places (k .i) (k .digits)) ∙ pow-add 2 (k .i) (31 - k .i)))
+      (mul-le-mul-right (2 ^ (31 - k .i)) (k .least))
     where
       places : (x : ℕ) → x < 24 → 31 ≡ x + (31 - x)
       places x h = omega arith
 
   reached-high : sig * 2 ^ (31 - k .i) < 2 ^ 32
-  reached-high = subst (λ (x : ℕ). sig * 2 ^ (31 - k .i) < 2 ^ x) (places (k .i) (k .digits)) (shl-lt (suc (k .i)) (31 - k .i) (k .most))
+  reached-high =
+      subst (λ (x : ℕ). sig * 2 ^ (31 - k .i) < 2 ^ x) (places (k .i) (k .digits))
+      (shl-lt (suc (k .i)) (31 - k .i) (k .most))
     where
       places : (x : ℕ) → x < 24 → suc x + (31 - x) ≡ 32
       places x h = omega arith
 
   -- and the shift loses nothing
   brought : sig * 2 ^ (z - 32) % 2 ^ 64 ≡ sig * 2 ^ (31 - k .i)
-  brought = ap (λ (x : ℕ). sig * 2 ^ x % 2 ^ 64) (left (k .i) (k .count)) ∙ mod-eq-of-lt (lt-of-lt-of-le reached-high (pow-mono {i = 32} {j = 64} (lit≤ tt)))
+  brought = ap (λ (x : ℕ). sig * 2 ^ x % 2 ^ 64) (left (k .i) (k .count))
+      ∙ mod-eq-of-lt (lt-of-lt-of-le reached-high (pow-mono {i = 32} {j = 64} (lit≤ tt)))
     where
       left : (b : ℕ) → z + b ≡ 63 → z - 32 ≡ 31 - b
       left b e = omega arith
@@ -168,7 +180,8 @@ module _ (v : Float) (q : Plain v) (p : Parts) (a : Parted binary32 v p) where
   some-digit : 0 < p .sig
   some-digit =
       first-pos (p .sig) (2 ^ p .j)
-      (first-pos (p .sig * 2 ^ p .j) (down (q .1)) (subst (λ (x : ℕ). 0 < x) (has .1) (mul-pos (mul-pos (zero-lt-suc (q .0)) (up-pos (q .1))) (pow-pos 149))))
+      (first-pos (p .sig * 2 ^ p .j) (down (q .1))
+      (subst (λ (x : ℕ). 0 < x) (has .1) (mul-pos (mul-pos (zero-lt-suc (q .0)) (up-pos (q .1))) (pow-pos 149))))
 
   pub zeros : Counted (p .sig) (leadingZeros 64 (p .sig))
   zeros = counted (p .sig) some-digit (a .small)
@@ -184,8 +197,11 @@ module _ (v : Float) (q : Plain v) (p : Parts) (a : Parted binary32 v p) where
         most = subst (λ (n : ℕ). n < 277) (sym x) (few (p .j) (zeros .i) (a .near) (zeros .digits));
         is = λ t r.
             ap (λ (n : ℕ). scaled (minus (n * 2 ^ 24 + t) (149 * 2 ^ 24))) x
-            ∙ ap (λ (n : ℕ). scaled (minus ((p .j + zeros .i) * 2 ^ 24 + n) (149 * 2 ^ 24))) (r ∙ ap (λ (n : ℕ). digits 24 n 0) y)
-            ∙ ap scaled (sym (fixed-is (suc (q .0)) (q .1) (p .sig) (p .j) (zeros .i) (zero-lt-suc (q .0)) (has .1) (zeros .least) (zeros .most) (zeros .digits)))
+            ∙ ap (λ (n : ℕ). scaled (minus ((p .j + zeros .i) * 2 ^ 24 + n) (149 * 2 ^ 24)))
+            (r ∙ ap (λ (n : ℕ). digits 24 n 0) y)
+            ∙ ap scaled
+            (sym (fixed-is (suc (q .0)) (q .1) (p .sig) (p .j) (zeros .i) (zero-lt-suc (q .0)) (has .1)
+            (zeros .least) (zeros .most) (zeros .digits)))
             ∙ ap lnOf (sym (q .2));
       }
     where
@@ -196,11 +212,14 @@ module _ (v : Float) (q : Plain v) (p : Parts) (a : Parted binary32 v p) where
       few j i b c = omega arith
 
 -- ---- the logarithm from what the code has for the larger part
-pub scaled-over : (h : ℕ) (r : Float) → 2499805184 ≤ h → r ≡ round binary32 false ((h - 2499805184) * 2977044472) (2 ^ 56) → r ≡ scaled (minus h 2499805184)
+pub scaled-over : (h : ℕ) (r : Float) → 2499805184 ≤ h
+    → r ≡ round binary32 false ((h - 2499805184) * 2977044472) (2 ^ 56) → r ≡ scaled (minus h 2499805184)
 scaled-over h r k e = e ∙ ap scaled (sym (minus-yes h 2499805184 k))
 
-pub scaled-under : (h : ℕ) (r : Float) → h < 2499805184 → r ≡ round binary32 true ((2499805184 - h) * 2977044472) (2 ^ 56) → r ≡ scaled (minus h 2499805184)
-scaled-under h r k e = e ∙ ap (λ (x : ℕ). round binary32 true (x * 2977044472) (2 ^ 56)) (step h k) ∙ ap scaled (sym (minus-no h 2499805184 k))
+pub scaled-under : (h : ℕ) (r : Float) → h < 2499805184
+    → r ≡ round binary32 true ((2499805184 - h) * 2977044472) (2 ^ 56) → r ≡ scaled (minus h 2499805184)
+scaled-under h r k e = e ∙ ap (λ (x : ℕ). round binary32 true (x * 2977044472) (2 ^ 56)) (step h k)
+    ∙ ap scaled (sym (minus-no h 2499805184 k))
   where
     step : (x : ℕ) → x < 2499805184 → 2499805184 - x ≡ suc (2499805184 - suc x)
     step x h = omega arith

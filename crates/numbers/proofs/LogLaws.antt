@@ -101,7 +101,8 @@ again {w} {y} {t} {i} {y'} {t'} g h a b =
       turns = omega arith;
       low = subst (λ (x : ℕ). 2 ^ 31 ≤ x) (sym a) (k .0);
       high = subst (λ (x : ℕ). x < 2 ^ 32) (sym a) (k .1);
-      short = subst (λ (x : ℕ). x < 2 ^ (i + 1)) (sym b) (more t (digit y) i (digit-le y (g .low) (g .high)) (g .short));
+      short = subst (λ (x : ℕ). x < 2 ^ (i + 1)) (sym b)
+          (more t (digit y) i (digit-le y (g .low) (g .high)) (g .short));
       rest =
           ap (λ (x : ℕ). digits (24 - (i + 1)) x t') a
           ∙ ap (λ (x : ℕ). digits (24 - (i + 1)) (next y) x) b

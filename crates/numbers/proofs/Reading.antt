@@ -8,7 +8,8 @@ use native.Mathlib.Omega.{arith}
 use lib.Dec.{T, lit<, leb, eqb, ltb, eqb→eq, not-T}
 use lib.Pow.{pow-pos, field}
 use lib.Bits.{bitAnd, and-mask, mask-lt}
-use lib.Ieee.{Float, nan, inf, fin, Format, binary32, binary64, prec, emax, low, hid, ones, top, odd, fits, isNan, ofFields, ofBits, toBits, nanBits, neg, lt, eq, ne, div, round, up, down}
+use lib.Ieee.{Float, nan, inf, fin, Format, binary32, binary64, prec, emax, low, hid, ones, top, odd, fits, isNan}
+use lib.Ieee.{ofFields, ofBits, toBits, nanBits, neg, lt, eq, ne, div, round, up, down}
 use lib.Ieee.Bits.{ofBits-toBits, is-false, cond-no}
 use lib.Ieee.Fits.{down-pos, eq→eqb}
 use lib.Ieee.Exact.{HasValue, odd-sign}
@@ -33,7 +34,8 @@ low-is : (f : Format) (s : Bool) (t : ℕ) → ofFields f s 0 t ≡ odd (prec f)
 unfolding ofFields
 low-is f s t = refl
 
-mid-is : (f : Format) (s : Bool) (x t : ℕ) → (suc x ≡ ones f → ⊥) → ofFields f s (suc x) t ≡ odd (prec f) s (hid f + t) x (low f)
+mid-is : (f : Format) (s : Bool) (x t : ℕ) → (suc x ≡ ones f → ⊥)
+    → ofFields f s (suc x) t ≡ odd (prec f) s (hid f + t) x (low f)
 unfolding ofFields
 mid-is f s x t h =
     cond-no (eqb (suc x) (ones f)) (cond (eqb t 0) (inf s) nan) (odd (prec f) s (hid f + t) x (low f))
@@ -71,10 +73,13 @@ module _ (f : Format) (v : Float) (F : T (fits f v)) (N : T (finite v)) where
   x-lt : x < suc (ones f)
   x-lt =
       div-lt-iff-lt-mul (pow-pos (prec f - 1)) .1
-      (subst (λ (y : ℕ). b % top f < y) (mul-comm (hid f) (suc (ones f))) (mod-lt b (mul-pos (pow-pos (prec f - 1)) (zero-lt-suc (ones f)))))
+      (subst (λ (y : ℕ). b % top f < y) (mul-comm (hid f) (suc (ones f)))
+      (mod-lt b (mul-pos (pow-pos (prec f - 1)) (zero-lt-suc (ones f)))))
 
   x-not : x ≡ ones f → ⊥
-  x-not e = top-not f s t (subst (λ (y : ℕ). T (finite (ofFields f s y t))) e (subst (λ (w : Float). T (finite w)) (sym reads) N))
+  x-not e =
+      top-not f s t
+      (subst (λ (y : ℕ). T (finite (ofFields f s y t))) e (subst (λ (w : Float). T (finite w)) (sym reads) N))
 
   twice : hid f + hid f ≡ 2 ^ prec f
   twice = go f
@@ -85,7 +90,8 @@ module _ (f : Format) (v : Float) (F : T (fits f v)) (N : T (finite v)) where
 
   pub zero-field : x ≡ 0 → Parted f v (record { neg = s; sig = t; j = 0 })
   zero-field e = record {
-    value = subst (λ (w : Float). HasValue w s (t * 2 ^ 0) (2 ^ low f)) (sym (low-is f s t) ∙ ap (λ (y : ℕ). ofFields f s y t) (sym e) ∙ reads) (odd-sign (prec f) s t 0 (low f));
+    value = subst (λ (w : Float). HasValue w s (t * 2 ^ 0) (2 ^ low f))
+        (sym (low-is f s t) ∙ ap (λ (y : ℕ). ofFields f s y t) (sym e) ∙ reads) (odd-sign (prec f) s t 0 (low f));
     small = wider (hid f) (2 ^ prec f) t t-lt twice;
     near = any-field f;
     lead = inl refl;
@@ -101,7 +107,8 @@ module _ (f : Format) (v : Float) (F : T (fits f v)) (N : T (finite v)) where
   pub some-field : (x ≡ 0 → ⊥) → Parted f v (record { neg = s; sig = t + hid f; j = x - 1 })
   some-field n = record {
     value = subst (λ (w : Float). HasValue w s ((t + hid f) * 2 ^ (x - 1)) (2 ^ low f)) read
-        (subst (λ (q : ℕ). HasValue (odd (prec f) s (hid f + t) (x - 1) (low f)) s (q * 2 ^ (x - 1)) (2 ^ low f)) (add-comm (hid f) t) (odd-sign (prec f) s (hid f + t) (x - 1) (low f)));
+        (subst (λ (q : ℕ). HasValue (odd (prec f) s (hid f + t) (x - 1) (low f)) s (q * 2 ^ (x - 1)) (2 ^ low f))
+        (add-comm (hid f) t) (odd-sign (prec f) s (hid f + t) (x - 1) (low f)));
     small = wider (hid f) (2 ^ prec f) t t-lt twice;
     near = under (emax f) x x-lt x-not n;
     lead = inr (least (hid f) t);
@@ -120,10 +127,14 @@ module _ (f : Format) (v : Float) (F : T (fits f v)) (N : T (finite v)) where
       least h y = omega arith
 
       read : odd (prec f) s (hid f + t) (x - 1) (low f) ≡ v
-      read = sym (mid-is f s (x - 1) t (λ e. x-not (sym (again x n) ∙ e))) ∙ ap (λ (y : ℕ). ofFields f s y t) (again x n) ∙ reads
+      read =
+          sym (mid-is f s (x - 1) t (λ e. x-not (sym (again x n) ∙ e)))
+          ∙ ap (λ (y : ℕ). ofFields f s y t) (again x n)
+          ∙ reads
 
 -- ---- the same as the machine has the fields, by masks: m digits below a field of w places
-module _ (f : Format) (w m : ℕ) (A : top f ≡ 2 ^ (w + m)) (B : hid f ≡ 2 ^ m) (v : Float) (F : T (fits f v)) (N : T (finite v)) where
+module _ (f : Format) (w m : ℕ) (A : top f ≡ 2 ^ (w + m)) (B : hid f ≡ 2 ^ m) (v : Float) (F : T (fits f v))
+    (N : T (finite v)) where
   abbrev pub field-of : ℕ
   field-of = bitAnd (toBits f v / 2 ^ m) (2 ^ w - 1)
 
@@ -147,12 +158,15 @@ module _ (f : Format) (w m : ℕ) (A : top f ≡ 2 ^ (w + m)) (B : hid f ≡ 2 ^
   field-lt = mask-lt (toBits f v / 2 ^ m) w
 
   pub parted-low : field-of ≡ 0 → Parted f v (record { neg = s f v F N; sig = low-of; j = 0 })
-  parted-low e = subst (λ (y : ℕ). Parted f v (record { neg = s f v F N; sig = y; j = 0 })) (sym low-of-is) (zero-field f v F N (sym field-is ∙ e))
+  parted-low e =
+      subst (λ (y : ℕ). Parted f v (record { neg = s f v F N; sig = y; j = 0 })) (sym low-of-is)
+      (zero-field f v F N (sym field-is ∙ e))
 
   pub parted : (field-of ≡ 0 → ⊥) → Parted f v (record { neg = s f v F N; sig = low-of + hid f; j = field-of - 1 })
   parted n =
       subst (λ (y : ℕ). Parted f v (record { neg = s f v F N; sig = y + hid f; j = field-of - 1 })) (sym low-of-is)
-      (subst (λ (y : ℕ). Parted f v (record { neg = s f v F N; sig = t f v F N + hid f; j = y - 1 })) (sym field-is) (some-field f v F N (λ e. n (field-is ∙ e))))
+      (subst (λ (y : ℕ). Parted f v (record { neg = s f v F N; sig = t f v F N + hid f; j = y - 1 })) (sym field-is)
+      (some-field f v F N (λ e. n (field-is ∙ e))))
 
 -- ---- `narrow`
 pub narrow-value : (v : Float) (s : Bool) (a c : ℕ) → 0 < c → HasValue v s a c → round binary32 s a c ≡ narrow v

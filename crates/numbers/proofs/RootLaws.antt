@@ -159,7 +159,8 @@ module _ (q rest g n r : ℕ) (G : 0 < g) (R : rest ≤ 2 * q) (NI : n ≡ (q * 
       plus x b e h = omega arith
 
       go : (t : Bool) → eqb (r * r) n ≡ t → 0 < 2 * (beyond .0) + cond t 0 1
-      go true e = rest-pos (beyond .0) 0 (λ h. inexact p (plus (q * g) (beyond .0) (beyond .1) h) (eqb-true (r * r) n e))
+      go true e =
+          rest-pos (beyond .0) 0 (λ h. inexact p (plus (q * g) (beyond .0) (beyond .1) h) (eqb-true (r * r) n e))
       go false e = last (beyond .0)
 
   over-lt : 2 * (beyond .0) + sticky < 2 * g
@@ -197,7 +198,8 @@ module _ (q rest g n r : ℕ) (G : 0 < g) (R : rest ≤ 2 * q) (NI : n ≡ (q * 
             ∙ round-between f false q i H (2 * (beyond .0) + sticky) g (over-pos p) (subst (λ (x : ℕ). 2 * (beyond .0) + sticky < x) two-g over-lt) G (subst (λ (x : ℕ). g < x) two-g half)
             ∙ ap (λ (x : ℕ). round f false (q * x + g) (2 ^ (low f + 1))) (sym two-g)
             ∙ ap (λ (x : ℕ). round f false x (2 ^ (low f + 1))) right
-            ∙ ap (λ (b : Bool). round f false ((2 * q + cond b 0 1) * g) (2 ^ (low f + 1))) (sym (ne-eqb rest 0 (not-zero rest p)))
+            ∙ ap (λ (b : Bool). round f false ((2 * q + cond b 0 1) * g) (2 ^ (low f + 1)))
+            (sym (ne-eqb rest 0 (not-zero rest p)))
           where
             not-zero : (x : ℕ) → 0 < x → x ≡ 0 → ⊥
             not-zero x a b = omega arith
@@ -269,7 +271,9 @@ fine : (m : ℕ) (e : ℤ) → T (fits binary32 (fin false (suc m) e)) → down 
 unfolding fits
 fine m e h =
     let A = eqb (suc m % 2) 1 && ltb (suc m) (2 ^ 24) in
-    leb→le (down e) (2 ^ 149) (and-r A (leb (down e) (2 ^ 149)) (and-l (A && leb (down e) (2 ^ 149)) (ltb (suc m * up e) (2 ^ 128 * down e)) h))
+    leb→le (down e) (2 ^ 149)
+    (and-r A (leb (down e) (2 ^ 149))
+    (and-l (A && leb (down e) (2 ^ 149)) (ltb (suc m * up e) (2 ^ 128 * down e)) h))
 
 -- ---- a v that is finite and above zero, and its parts
 module _ (v : Float) (p : Plain v) (a : Parts) (A : Parted binary64 v a) where

@@ -142,12 +142,15 @@ module _ (f : Format) (c : ℕ) (C : low f + c ≡ 1074) (m i j : ℕ) (lo : 2 ^
       join x y g = omega arith
 
   -- the leading one is brought to bit 63, by z places, and all but prec digits are cut off
-  pub kept-top : (z : ℕ) → z + suc i ≡ 64 → c + prec f ≤ suc i + j → closest (m * 2 ^ z % 2 ^ 64) (2 ^ (64 - prec f)) ≡ kept
+  pub kept-top : (z : ℕ) → z + suc i ≡ 64 → c + prec f ≤ suc i + j
+      → closest (m * 2 ^ z % 2 ^ 64) (2 ^ (64 - prec f)) ≡ kept
   kept-top z e h =
-      ap (λ (x : ℕ). closest x (2 ^ (64 - prec f))) (mod-eq-of-lt (subst (λ (x : ℕ). m * 2 ^ z < 2 ^ x) (places e) (shl-lt (suc i) z hi)))
+      ap (λ (x : ℕ). closest x (2 ^ (64 - prec f)))
+      (mod-eq-of-lt (subst (λ (x : ℕ). m * 2 ^ z < 2 ^ x) (places e) (shl-lt (suc i) z hi)))
       ∙ closest-same (m * 2 ^ z) (2 ^ (64 - prec f)) a (2 ^ (c + k)) (pow-pos (64 - prec f)) (pow-pos (c + k))
       (mul-assoc m (2 ^ z) (2 ^ (c + k))
-      ∙ ap (λ (x : ℕ). m * x) (sym (pow-add 2 z (c + k)) ∙ ap (λ (x : ℕ). 2 ^ x) (fit (prec f) (short f) e h) ∙ pow-add 2 j (64 - prec f))
+      ∙ ap (λ (x : ℕ). m * x) (sym (pow-add 2 z (c + k)) ∙ ap (λ (x : ℕ). 2 ^ x) (fit (prec f) (short f) e h)
+      ∙ pow-add 2 j (64 - prec f))
       ∙ sym (mul-assoc m (2 ^ j) (2 ^ (64 - prec f))))
     where
       places : z + suc i ≡ 64 → suc i + z ≡ 64
@@ -199,8 +202,11 @@ module _ (f : Format) (c : ℕ) (C : low f + c ≡ 1074) (m j K : ℕ) (M : m < 
       ap (λ (x : ℕ). closest m (2 ^ (c + x - j))) K-is
       ∙ kept-cut f c C m (d .0) j (d .2) (d .3) (subst (λ (x : ℕ). j ≤ c + x) K-is h)
 
-  word-top : c + prec f ≤ 64 - leadingZeros 64 m + j → closest (m * 2 ^ leadingZeros 64 m % 2 ^ 64) (2 ^ (64 - prec f)) ≡ word-kept
-  word-top h = kept-top f c C m (d .0) j (d .2) (d .3) (leadingZeros 64 m) (all (leadingZeros 64 m) (d .0) (leading-le 64 m) (d .1)) (subst (λ (x : ℕ). c + prec f ≤ x + j) (d .1) h)
+  word-top : c + prec f ≤ 64 - leadingZeros 64 m + j
+      → closest (m * 2 ^ leadingZeros 64 m % 2 ^ 64) (2 ^ (64 - prec f)) ≡ word-kept
+  word-top h =
+      kept-top f c C m (d .0) j (d .2) (d .3) (leadingZeros 64 m)
+      (all (leadingZeros 64 m) (d .0) (leading-le 64 m) (d .1)) (subst (λ (x : ℕ). c + prec f ≤ x + j) (d .1) h)
     where
       all : (z i : ℕ) → z ≤ 64 → 64 - z ≡ suc i → z + suc i ≡ 64
       all z i h e = omega arith
@@ -222,7 +228,8 @@ pub record Word (f : Format) (m j K X : ℕ) : Type 0 where
   pub keeps : ℕ
   pub shl : X ≤ j → m * 2 ^ (j - X) % 2 ^ 64 ≡ keeps
   pub cut : j ≤ X → closest m (2 ^ (X - j)) ≡ keeps
-  pub top : 1074 + prec f ≤ low f + (64 - leadingZeros 64 m + j) → closest (m * 2 ^ leadingZeros 64 m % 2 ^ 64) (2 ^ (64 - prec f)) ≡ keeps
+  pub top : 1074 + prec f ≤ low f + (64 - leadingZeros 64 m + j)
+      → closest (m * 2 ^ leadingZeros 64 m % 2 ^ 64) (2 ^ (64 - prec f)) ≡ keeps
   pub ok : (q : ℕ) → q ≡ keeps → (q ≤ 2 ^ prec f) × ((K ≡ 0) ⊎ (hid f ≤ q))
   pub is : (s : Bool) (q : ℕ) → q ≡ keeps → units f s q K ≡ round f s (m * 2 ^ j) (2 ^ 1074)
 

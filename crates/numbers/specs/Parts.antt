@@ -10,14 +10,16 @@ use Rattle.numbers.specs.Log.{digits, lnOf, scaled}
 use Rattle.numbers.specs.declared.rounding.Parts.{Parts}
 use Rattle.numbers.specs.declared.root.Extract.{Extract}
 
--- v is sig * 2 ^ j of the format's smallest value, negative where neg is true; sig has as many digits as the format, or fewer where j is 0
+-- v is sig * 2 ^ j of the format's smallest value, negative where neg is true; sig has as many digits as the format,
+-- or fewer where j is 0
 pub record Parted (f : Format) (v : Float) (p : Parts) : Type 0 where
   pub value : HasValue v (p .neg) (p .sig * 2 ^ p .j) (2 ^ low f)
   pub small : p .sig < 2 ^ prec f
   pub near : p .j < 2 * emax f
   pub lead : (p .j ≡ 0) ⊎ (hid f ≤ p .sig)
 
--- y has v's leading one at bit 31, and e is its exponent, with 149 more: the logarithm follows from e and the digits of y
+-- y has v's leading one at bit 31, and e is its exponent, with 149 more: the logarithm follows from e
+-- and the digits of y
 pub record Begun (v : Float) (y e : ℕ) : Type 0 where
   pub low : 2 ^ 31 ≤ y
   pub high : y < 2 ^ 32

@@ -22,7 +22,8 @@ pub(crate) struct Lead {
     pub e: u64,
 }
 
-// Where the logarithm of a v that is finite and above zero begins: the leading zeros of its significand give shift and exponent.
+// Where the logarithm of a v that is finite and above zero begins: the leading zeros of its significand
+// give shift and exponent.
 pub(crate) fn lead_of(v: f32) -> Lead
     requires { ⌜ T (positive v) ⌝ }
     ensures { λ r. ⌜ Begun v (r .y) (r .e) ⌝ }

@@ -1,4 +1,5 @@
--- `numbers::inner::lead_of` meets its contract: `proofs/LnLaws.antt` has what the count of leading zeros gives. Assumes nothing.
+-- `numbers::inner::lead_of` meets its contract: `proofs/LnLaws.antt` has what the count of leading zeros gives.
+-- Assumes nothing.
 use mathlib.Core.Path.{_≡_}
 use Prim.Native.Nat.{ℕ, _+_, _-_, _^_, _≤_, _<_}
 use native.Mathlib.Omega.{arith}
@@ -9,7 +10,8 @@ use borrow.Author.Needs.{needs}
 use Rattle.numbers.proofs.inner.lead_of.Statement.{statement}
 use Rattle.numbers.proofs.inner.lead_of.Tie as tie
 
-count : (c : tie.After-take-apart32) → Counted (c .take-apart32 .result .sig) (leadingZeros 64 (c .take-apart32 .result .sig))
+count : (c : tie.After-take-apart32)
+    → Counted (c .take-apart32 .result .sig) (leadingZeros 64 (c .take-apart32 .result .sig))
 count c = zeros (c .before .args .v) (plain _ (c .before .pre)) (c .take-apart32 .result) (c .take-apart32 .ensures)
 
 most : {s z : ℕ} → Counted s z → 32 ≤ z

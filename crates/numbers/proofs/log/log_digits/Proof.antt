@@ -24,10 +24,10 @@ loop-less : tie.Need-loop-less Inv-loop μ-loop
 loop-less c = omega arith
 
 loop-again : tie.Need-loop-again Inv-loop μ-loop
-loop-again c = again (c .before .before .loop .inv) (c .before .loop-test .taken) (c .one-digit .ensures .0) (c .one-digit .ensures .1)
+loop-again c = again (c .before .before .loop .inv) (omega arith) (c .one-digit .ensures .0) (c .one-digit .ensures .1)
 
 returns : tie.Need-returns Inv-loop μ-loop
-returns c = ended (c .before .loop .inv) (c .loop-test .left)
+returns c = ended (c .before .loop .inv) (omega arith)
 
 pub log-digits-spec : {M : Type 1} → statement M
 log-digits-spec =

@@ -30,11 +30,14 @@ loop-again : tie.Need-loop-again Inv-loop μ-loop
 loop-again c =
     let p = c .before .one-digit .ensures in
     let q = c .one-digit2 .ensures in
-    let l = c .before .before in
-    (again (l .before .loop .inv .0) (l .loop-test .taken) (p .0) (p .1), again (l .before .loop .inv .1) (l .loop-test .taken) (q .0) (q .1))
+    let l = c .before .before in (
+      again (l .before .loop .inv .0) (omega arith) (p .0) (p .1),
+      again
+          (l .before .loop .inv .1) (omega arith) (q .0) (q .1),
+    )
 
 returns : tie.Need-returns Inv-loop μ-loop
-returns c = let i = c .before .loop .inv in (ended (i .0) (c .loop-test .left), ended (i .1) (c .loop-test .left))
+returns c = let i = c .before .loop .inv in (ended (i .0) (omega arith), ended (i .1) (omega arith))
 
 pub two-digits-spec : {M : Type 1} → statement M
 two-digits-spec =

@@ -23,10 +23,14 @@ returns-2 : tie.Need-returns-2
 returns-2 c = narrow-nan (c .before .before .before .args .v) (c .if2 .taken)
 
 returns-3 : tie.Need-returns-3
-returns-3 c = narrow-below (c .before .before .before .before .args .v) (sym (c .before .before .before .finite64 .ensures) ∙ c .before .before .if1 .left) (c .before .if2 .left) (c .if3 .taken)
+returns-3 c =
+    narrow-below (c .before .before .before .before .args .v) (sym (c .before .before .before .finite64 .ensures)
+    ∙ c .before .before .if1 .left) (c .before .if2 .left) (c .if3 .taken)
 
 returns-4 : tie.Need-returns-4
-returns-4 c = narrow-over (c .before .before .before .before .args .v) (sym (c .before .before .before .finite64 .ensures) ∙ c .before .before .if1 .left) (c .before .if2 .left) (c .if3 .left)
+returns-4 c =
+    narrow-over (c .before .before .before .before .args .v) (sym (c .before .before .before .finite64 .ensures)
+    ∙ c .before .before .if1 .left) (c .before .if2 .left) (c .if3 .left)
 
 pub narrow-spec : {M : Type 1} → statement M
 narrow-spec =

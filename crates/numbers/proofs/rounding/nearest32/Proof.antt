@@ -13,7 +13,8 @@ use Rattle.numbers.proofs.Rounds.{round-zero, Word, word, digits-of}
 use Rattle.numbers.proofs.rounding.nearest32.Statement.{statement}
 use Rattle.numbers.proofs.rounding.nearest32.Tie as tie
 
--- how many digits of the whole part, in units of the smallest f32, a normal f32 drops, by the leading zeros z; a smaller one drops none
+-- how many digits of the whole part, in units of the smallest f32, a normal f32 drops, by the leading zeros z; a
+-- smaller one drops none
 normal-drops : (z j : ℕ) → z ≤ 64 → j - (885 + z) ≡ 64 - z + j - 949
 normal-drops z j h = omega arith
 
@@ -35,10 +36,13 @@ module _ (c : tie.Then2) where
   abbrev s : tie.Start
   s = c .before .before
 
-  normal : Word binary32 (s .args .m) (s .args .j) (s .args .j - (885 + leadingZeros 64 (s .args .m))) (925 + (s .args .j - (885 + leadingZeros 64 (s .args .m))))
-  normal = word binary32 925 refl (s .args .m) (s .args .j) _ _ (s .fits .m .fits) (c .before .if1 .left) (normal-drops _ _ (leading-le 64 (s .args .m))) refl
+  normal : Word binary32 (s .args .m) (s .args .j) (s .args .j - (885 + leadingZeros 64 (s .args .m)))
+      (925 + (s .args .j - (885 + leadingZeros 64 (s .args .m))))
+  normal = word binary32 925 refl (s .args .m) (s .args .j) _ _ (s .fits .m .fits) (c .before .if1 .left)
+      (normal-drops _ _ (leading-le 64 (s .args .m))) refl
 
-  normal-kept : (q : ℕ) → q ≡ closest (s .args .m * 2 ^ leadingZeros 64 (s .args .m) % 2 ^ 64) (2 ^ 40) → q ≡ normal .keeps
+  normal-kept : (q : ℕ) → q ≡ closest (s .args .m * 2 ^ leadingZeros 64 (s .args .m) % 2 ^ 64) (2 ^ 40)
+      → q ≡ normal .keeps
   normal-kept q e = e ∙ normal .top (normal-digits _ _ (leading-le 64 (s .args .m)) (c .if2 .taken))
 
 -- ---- a smaller one
@@ -47,7 +51,8 @@ module _ (c : tie.Else2) where
   t = c .before .before
 
   small : Word binary32 (t .args .m) (t .args .j) 0 925
-  small = word binary32 925 refl (t .args .m) (t .args .j) 0 925 (t .fits .m .fits) (c .before .if1 .left) (small-drops _ _ (leading-le 64 (t .args .m)) (c .if2 .left)) refl
+  small = word binary32 925 refl (t .args .m) (t .args .j) 0 925 (t .fits .m .fits) (c .before .if1 .left)
+      (small-drops _ _ (leading-le 64 (t .args .m)) (c .if2 .left)) refl
 
 pack32-requires : tie.Need-pack32-requires
 pack32-requires c κs = (lit≤ tt, inl refl)
@@ -77,7 +82,9 @@ pack32-requires-2 : tie.Need-pack32-requires-2
 pack32-requires-2 c κs = normal (c .before) .ok _ (normal-kept (c .before) _ (c .rounded .ensures))
 
 returns-2 : tie.Need-returns-2
-returns-2 c = c .pack322 .ensures ∙ normal (c .before .before) .is _ _ (normal-kept (c .before .before) _ (c .before .rounded .ensures))
+returns-2 c =
+    c .pack322 .ensures
+    ∙ normal (c .before .before) .is _ _ (normal-kept (c .before .before) _ (c .before .rounded .ensures))
 
 cast-pack32 : tie.Need-cast-pack32
 cast-pack32 c = search needs
@@ -95,13 +102,15 @@ rounded-requires-2 : tie.Need-rounded-requires-2
 rounded-requires-2 c κs = search needs
 
 pack32-requires-4 : tie.Need-pack32-requires-4
-pack32-requires-4 c κs = let w = small (c .before .before) in w .ok _ (c .rounded2 .ensures ∙ w .cut (le-of-lt (c .before .if3 .left)))
+pack32-requires-4 c κs = let w = small (c .before .before) in
+    w .ok _ (c .rounded2 .ensures ∙ w .cut (le-of-lt (c .before .if3 .left)))
 
 returns-3 : tie.Need-returns-3
 returns-3 c = let w = small (c .before .before) in c .pack323 .ensures ∙ w .is _ _ (w .shl (c .before .if3 .taken))
 
 returns-4 : tie.Need-returns-4
-returns-4 c = let w = small (c .before .before .before) in c .pack324 .ensures ∙ w .is _ _ (c .before .rounded2 .ensures ∙ w .cut (le-of-lt (c .before .before .if3 .left)))
+returns-4 c = let w = small (c .before .before .before) in
+    c .pack324 .ensures ∙ w .is _ _ (c .before .rounded2 .ensures ∙ w .cut (le-of-lt (c .before .before .if3 .left)))
 
 pub nearest32-spec : {M : Type 1} → statement M
 nearest32-spec =

@@ -23,13 +23,15 @@ float-to-bits-b : tie.Need-float-to-bits-b
 float-to-bits-b c = finite-number (c .args .v) (c .pre)
 
 add-t9 : tie.Need-add-t9
-add-t9 c = record { fits = wide (low-lt binary64 11 52 refl refl (c .before .args .v) (held (c .before)) (c .before .pre)) }
+add-t9 c =
+    record { fits = wide (low-lt binary64 11 52 refl refl (c .before .args .v) (held (c .before)) (c .before .pre)) }
 
 sub-t10 : tie.Need-sub-t10
 sub-t10 c = search needs
 
 cast-t11 : tie.Need-cast-t11
-cast-t11 c = record { fits = short (field-lt binary64 11 52 refl refl (c .before .args .v) (held (c .before)) (c .before .pre)) }
+cast-t11 c =
+    record { fits = short (field-lt binary64 11 52 refl refl (c .before .args .v) (held (c .before)) (c .before .pre)) }
 
 returns : tie.Need-returns
 returns c = parted-low binary64 11 52 refl refl (c .before .args .v) (held (c .before)) (c .before .pre) (c .if1 .taken)

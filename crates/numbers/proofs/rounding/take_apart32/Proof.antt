@@ -29,13 +29,15 @@ cast-low : tie.Need-cast-low
 cast-low c = record { fits = in-word (low-lt binary32 8 23 refl refl (c .args .v) (held c) (c .pre)) }
 
 add-t9 : tie.Need-add-t9
-add-t9 c = record { fits = wide (low-lt binary32 8 23 refl refl (c .before .args .v) (held (c .before)) (c .before .pre)) }
+add-t9 c =
+    record { fits = wide (low-lt binary32 8 23 refl refl (c .before .args .v) (held (c .before)) (c .before .pre)) }
 
 sub-t10 : tie.Need-sub-t10
 sub-t10 c = search needs
 
 cast-t11 : tie.Need-cast-t11
-cast-t11 c = record { fits = short (field-lt binary32 8 23 refl refl (c .before .args .v) (held (c .before)) (c .before .pre)) }
+cast-t11 c =
+    record { fits = short (field-lt binary32 8 23 refl refl (c .before .args .v) (held (c .before)) (c .before .pre)) }
 
 returns : tie.Need-returns
 returns c = parted-low binary32 8 23 refl refl (c .before .args .v) (held (c .before)) (c .before .pre) (c .if1 .taken)
