@@ -1,5 +1,4 @@
 // The logarithm and the roots as the layers above call them, which know what they hand in.
-use crate::log::log_digits;
 use crate::log::two_digits;
 use crate::root::pattern_below;
 use crate::root::positive_root32;
@@ -56,7 +55,9 @@ pub fn ln_of(v: f32) -> f32
     ensures { λ r. ⌜ r ≡ lnOf v ⌝ }
 {
     let k = lead_of(v);
-    log_from(k.e, log_digits(k.y))
+    // of one number twice, which the compiler works out once
+    let t = two_digits(k.y, k.y);
+    log_from(k.e, t.a)
 }
 
 // Two logarithms.

@@ -26,27 +26,14 @@ pub(crate) fn one_digit(q: Squaring) -> Squaring
     }
 }
 
-// 24 binary digits of the logarithm of y / 2^31 to the base 2, by squaring.
-pub(crate) fn log_digits(y: u64) -> u64
-    requires { ⌜ (2 ^ 31 ≤ y) × (y < 2 ^ 32) ⌝ }
-    ensures { λ r. ⌜ (r ≡ digits 24 y 0) × (r < 2 ^ 24) ⌝ }
-{
-    let mut q = Squaring { y, t: 0 };
-    let mut i: u32 = 0;
-    while i < 24 {
-        q = one_digit(q);
-        i += 1;
-    }
-    q.t
-}
-
 // The digits of two logarithms.
 pub(crate) struct Digits {
     pub a: u64,
     pub b: u64,
 }
 
-// The same of two numbers: the steps of one do not wait for those of the other.
+// 24 binary digits of the logarithms of y / 2^31 and z / 2^31 to the base 2, by squaring: the steps of one do not wait
+// for those of the other.
 pub(crate) fn two_digits(y: u64, z: u64) -> Digits
     requires { ⌜ (2 ^ 31 ≤ y) × (y < 2 ^ 32) ⌝ }
     requires { ⌜ (2 ^ 31 ≤ z) × (z < 2 ^ 32) ⌝ }
