@@ -237,10 +237,11 @@ module _ (c : ℕ) (CL : 2 ^ 23 ≤ c) (CH : c < 254 * 2 ^ 23) where
       plus x h = omega arith
 
   middle-positive : T (positive (ofBits binary64 middle))
-  middle-positive = positive-of-value (ofBits binary64 middle) (w * 2 ^ k) (2 ^ 150) middle-value (mul-pos (some s) (pow-pos k))
+  middle-positive =
+      positive-of-value (ofBits binary64 middle) (w * 2 ^ k) (2 ^ 150) middle-value (mul-pos (odd-pos s) (pow-pos k))
     where
-      some : (x : ℕ) → 0 < 2 * x + 1
-      some x = omega arith
+      odd-pos : (x : ℕ) → 0 < 2 * x + 1
+      odd-pos x = omega arith
 
   abbrev A : ℕ
   A = w * 2 ^ k

@@ -8,7 +8,7 @@ use lib.Dec.{T, ltb, leb}
 use lib.Pow.{pow-pos}
 use lib.Ieee.{Float, nan, inf, fin, binary32, binary64, isNan, nanBits, ofBits, toBits, lt, eq, le}
 use borrow.Author.Tests.{lt-ltb, le-ltb, le-leb, lt-leb, leb-true, ltb-true}
-use Rattle.numbers.specs.Estimate.{none, newtonOf, digitsOf, liftedOf, certifies}
+use Rattle.numbers.specs.Estimate.{uncertified, newtonOf, digitsOf, liftedOf, certifies}
 use Rattle.numbers.specs.Root.{sqrtOf}
 use Rattle.numbers.proofs.FloorRoot.{square-mono}
 use Rattle.numbers.proofs.Plain.{number-bits}
@@ -140,10 +140,10 @@ up-fits q r h k = go (r / (2 * q)) (div-le-self r (2 * q))
     go x l = omega arith
 
 pub down-fits : (q r : ℕ) → 2 ^ 55 ≤ q → 2 ^ 63 ≤ r → (2 ^ 64 - 1 - r) / (2 * q) ≤ q - 1
-down-fits q r h k = go ((2 ^ 64 - 1 - r) / (2 * q)) (div-lt-iff-lt-mul some .1 enough)
+down-fits q r h k = go ((2 ^ 64 - 1 - r) / (2 * q)) (div-lt-iff-lt-mul divisor-pos .1 enough)
   where
-    some : 0 < 2 * q
-    some = omega arith
+    divisor-pos : 0 < 2 * q
+    divisor-pos = omega arith
 
     enough : 2 ^ 64 - 1 - r < 2 ^ 7 * (2 * q)
     enough = omega arith
@@ -153,13 +153,13 @@ down-fits q r h k = go ((2 ^ 64 - 1 - r) / (2 * q)) (div-lt-iff-lt-mul some .1 e
 
 -- ---- `lifted`
 module _ (x y : ℕ) where
-  pub lifted-long : 2 ^ 35 ≤ x → none ≡ liftedOf x y
+  pub lifted-long : 2 ^ 35 ≤ x → uncertified ≡ liftedOf x y
   lifted-long h = rw (le-ltb x (2 ^ 35) h)
 
   shift-is : x < 2 ^ 35 → x * 2 ^ 28 % 2 ^ 64 ≡ x * 2 ^ 28
   shift-is h = mod-eq-of-lt (omega arith)
 
-  pub lifted-below : x < 2 ^ 35 → x * 2 ^ 28 % 2 ^ 64 < y → none ≡ liftedOf x y
+  pub lifted-below : x < 2 ^ 35 → x * 2 ^ 28 % 2 ^ 64 < y → uncertified ≡ liftedOf x y
   lifted-below h g = rw (lt-ltb x (2 ^ 35) h, lt-leb y (x * 2 ^ 28) (subst (λ (z : ℕ). z < y) (shift-is h) g))
 
   pub lifted-done : x < 2 ^ 35 → y ≤ x * 2 ^ 28 % 2 ^ 64 → x * 2 ^ 28 % 2 ^ 64 - y ≡ liftedOf x y
@@ -168,7 +168,7 @@ module _ (x y : ℕ) where
       ∙ rw (lt-ltb x (2 ^ 35) h, le-leb y (x * 2 ^ 28) (subst (λ (z : ℕ). y ≤ z) (shift-is h) g))
 
   -- it is none, or the difference
-  pub lifted-some : (liftedOf x y ≡ none → ⊥) → (x * 2 ^ 28 ≡ y + liftedOf x y) × (x < 2 ^ 35)
+  pub lifted-some : (liftedOf x y ≡ uncertified → ⊥) → (x * 2 ^ 28 ≡ y + liftedOf x y) × (x < 2 ^ 35)
   lifted-some n = go (ltb x (2 ^ 35)) refl (leb y (x * 2 ^ 28)) refl
     where
       less : y ≤ x * 2 ^ 28 → x * 2 ^ 28 ≡ y + (x * 2 ^ 28 - y)
@@ -180,10 +180,11 @@ module _ (x y : ℕ) where
       go true e true f = (less (leb-true y (x * 2 ^ 28) f) ∙ ap (λ (z : ℕ). y + z) (sym (rw (e, f))), ltb-true x (2 ^ 35) e)
 
   pub lifted-is : (r : ℕ) → x < 2 ^ 35 → x * 2 ^ 28 ≡ y + r → liftedOf x y ≡ r
-  lifted-is r h e = sym (lifted-done h (le-trans (some r e) (le-of-eq (sym (shift-is h))))) ∙ ap (λ (z : ℕ). z - y) (shift-is h ∙ e) ∙ gone y r
+  lifted-is r h e = sym (lifted-done h (le-trans (no-more r e) (le-of-eq (sym (shift-is h)))))
+      ∙ ap (λ (z : ℕ). z - y) (shift-is h ∙ e) ∙ gone y r
     where
-      some : (s : ℕ) → x * 2 ^ 28 ≡ y + s → y ≤ x * 2 ^ 28
-      some s g = omega arith
+      no-more : (s : ℕ) → x * 2 ^ 28 ≡ y + s → y ≤ x * 2 ^ 28
+      no-more s g = omega arith
 
       gone : (u s : ℕ) → u + s - u ≡ s
       gone u s = omega arith
@@ -196,7 +197,7 @@ module _ (m q : ℕ) (Q : q < 2 ^ 56) where
   abbrev pub last : ℕ
   last = liftedOf first (b q Q * b q Q)
 
-  small-some : (r : ℕ) → r ≤ 2 * q → r ≡ none → ⊥
+  small-some : (r : ℕ) → r ≤ 2 * q → r ≡ uncertified → ⊥
   small-some r h e = omega arith
 
   -- what is small enough was left
@@ -206,7 +207,7 @@ module _ (m q : ℕ) (Q : q < 2 ^ 56) where
       let f = lifted-some (m / 256 - a q Q * a q Q) (2 * (a q Q * b q Q)) (short first (l .1)) in
       certified q Q m first last e h (f .0) (l .0)
     where
-      short : (x : ℕ) → x < 2 ^ 35 → x ≡ none → ⊥
+      short : (x : ℕ) → x < 2 ^ 35 → x ≡ uncertified → ⊥
       short x k i = omega arith
 
   -- and where q is the root, it is found

@@ -43,7 +43,7 @@ module _ (m : ℕ) (M : 0 < m) (S : m < 2 ^ 32) where
       before : (x : ℕ) → 0 < x → x - 1 < x
       before x h = omega arith
 
--- ---- ln 2, ln 1, ln 0.5, ln 3, the root of 2, and 0.1 as an f32
+-- ---- ln 2, ln 1, ln 0.5, ln 3, those of the smallest f32 and of thrice that, the root of 2, and 0.1 as an f32
 ln-two : lnOf (ofBits binary32 0x4000_0000) ≡ ofBits binary32 0x3f31_7218
 unfolding lnOf digits size round ofBits
 ln-two = refl
@@ -59,6 +59,14 @@ ln-half = refl
 ln-three : lnOf (ofBits binary32 0x4040_0000) ≡ ofBits binary32 0x3f8c_9f54
 unfolding lnOf digits size round ofBits
 ln-three = refl
+
+ln-smallest : lnOf (ofBits binary32 1) ≡ ofBits binary32 0xc2ce_8ed0
+unfolding lnOf digits size round ofBits
+ln-smallest = refl
+
+ln-subnormal : lnOf (ofBits binary32 3) ≡ ofBits binary32 0xc2cc_5c53
+unfolding lnOf digits size round ofBits
+ln-subnormal = refl
 
 sqrt-two : sqrtOf binary32 (ofBits binary32 0x4000_0000) ≡ ofBits binary32 0x3fb5_04f3
 unfolding sqrtOf rootOf floorRoot rootIn size round ofBits

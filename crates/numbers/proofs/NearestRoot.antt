@@ -370,10 +370,14 @@ module _ (f : Format) (m : ℕ) (e : ℤ) (H : Held f m e) where
       go x h = omega arith
 
   tie-below : 2 ^ (p - 1) < K → R + v ≡ a → R * R ≡ N → ⊥
-  tie-below b r s = no-tie (2 * K - 1) (k - 1) (odd-one K (some (2 ^ (p - 1)) K b)) (wide K (2 ^ (p - 1)) (2 ^ p) b (halves p P)) (go R (K - 1) (K * u) (last K (some (2 ^ (p - 1)) K b)) (ap (λ (x : ℕ). K * x) u-is) r ∙ ap (λ (x : ℕ). x * v) (join K (some (2 ^ (p - 1)) K b))) s
+  tie-below b r s =
+      no-tie (2 * K - 1) (k - 1) (odd-one K (above-zero (2 ^ (p - 1)) K b))
+      (wide K (2 ^ (p - 1)) (2 ^ p) b (halves p P))
+      (go R (K - 1) (K * u) (last K (above-zero (2 ^ (p - 1)) K b)) (ap (λ (x : ℕ). K * x) u-is) r
+      ∙ ap (λ (x : ℕ). x * v) (join K (above-zero (2 ^ (p - 1)) K b))) s
     where
-      some : (x y : ℕ) → x < y → 0 < y
-      some x y h = omega arith
+      above-zero : (x y : ℕ) → x < y → 0 < y
+      above-zero x y h = omega arith
 
       odd-one : (x : ℕ) → 0 < x → (2 * x - 1) % 2 ≡ 1
       odd-one x h = omega arith

@@ -82,8 +82,11 @@ none-above d h = omega arith
 nothing : (x d : ℕ) → x * 1 ≤ 0 * 1 * d → x ≤ 0
 nothing x d h = omega arith
 
-some : (m : ℕ) (e : ℤ) → ltb (0 * 1 * down e) (suc m * up e * 1) ≡ false → ⊥
-some m e h = lt-irrefl 0 (lt-of-lt-of-le (mul-pos (zero-lt-suc m) (up-pos e)) (nothing (suc m * up e) (down e) (ltb-false (0 * 1 * down e) (suc m * up e * 1) h)))
+not-below : (m : ℕ) (e : ℤ) → ltb (0 * 1 * down e) (suc m * up e * 1) ≡ false → ⊥
+not-below m e h =
+    lt-irrefl 0
+    (lt-of-lt-of-le (mul-pos (zero-lt-suc m) (up-pos e))
+    (nothing (suc m * up e) (down e) (ltb-false (0 * 1 * down e) (suc m * up e * 1) h)))
 
 positive-at : (v : Float) → lt origin v ≡ true → lt v (inf false) ≡ true → positive v ≡ true
 unfolding lt
@@ -100,7 +103,7 @@ low-at nan a = refl
 low-at (inf s) a = refl
 low-at (fin true m e) a = refl
 low-at (fin false zero e) a = refl
-low-at (fin false (suc m) e) a = absurd (some m e a)
+low-at (fin false (suc m) e) a = absurd (not-below m e a)
 
 high-at : (v : Float) → lt v (inf false) ≡ false → positive v ≡ false
 unfolding lt
@@ -227,7 +230,8 @@ below-at nan a = refl
 below-at (inf s) a = refl
 below-at (fin s zero e) a = absurd (or-second (lt origin (fin s zero e)) (eq origin (fin s zero e)) (zero-equals s e) a)
 below-at (fin true (suc m) e) a = refl
-below-at (fin false (suc m) e) a = absurd (some m e (or-first (lt origin (fin false (suc m) e)) (eq origin (fin false (suc m) e)) a))
+below-at (fin false (suc m) e) a =
+    absurd (not-below m e (or-first (lt origin (fin false (suc m) e)) (eq origin (fin false (suc m) e)) a))
 
 beyond-at : (v : Float) → lt v (inf false) ≡ false → rootless v ≡ true
 unfolding lt
@@ -271,7 +275,7 @@ none-at f (inf true) a b = refl
 none-at f (inf false) a b = absurd (true≢false a)
 none-at f (fin s zero e) a b = absurd (true≢false (sym (equals-zero s e) ∙ b))
 none-at f (fin true (suc m) e) a b = refl
-none-at f (fin false (suc m) e) a b = absurd (some m e a)
+none-at f (fin false (suc m) e) a b = absurd (not-below m e a)
 
 nan-is : (f : Format) → div f (ofBits f 0) (ofBits f 0) ≡ nan
 unfolding div ofBits

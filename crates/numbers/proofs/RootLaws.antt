@@ -6,12 +6,12 @@ use Prim.Native.Nat.{ℕ, zero, suc, _+_, _-_, _*_, _/_, _%_, _^_, _≤_, _<_}
 use native.Mathlib.Nat.{le-refl, le-trans, le-of-eq, le-of-lt, lt-of-lt-of-le, lt-of-le-of-lt, lt-irrefl, lt-of-not-le, le-of-suc-le-suc, le-antisymm, mul-one, one-mul, zero-mul, mul-assoc, mul-comm, mul-left-comm, mul-right-comm, mul-le-mul-right, mul-le-mul-left, mul-lt-mul-of-pos-right, lt-of-mul-lt-mul-right, le-of-mul-le-mul-right, eq-of-mul-eq-mul-right, mul-pos, mod-eq-of-lt, div-one, zero-lt-suc, le-dest, pow-succ', eq-zero-or-pos, add-mul}
 use native.Mathlib.Decide.{decLe}
 use native.Mathlib.Omega.{arith}
-use lib.Dec.{T, leb, ltb, eqb, eqb→eq, lit≤, lit<}
+use lib.Dec.{T, leb, ltb, eqb, eqb→eq, leb→le, lit≤, lit<}
 use lib.Pow.{pow-add, pow-pos, pow-mono, pow-lt, shl-lt}
 use lib.Count.{leadingZeros, leading-top}
 use lib.IntN.{ℤ, pos, negsuc}
 use lib.Ieee.{Float, nan, inf, fin, Format, binary32, binary64, prec, low, up, down, fits, isNan, nanBits, ofBits, lt, eq, round}
-use lib.Ieee.Fits.{up-pos, down-pos}
+use lib.Ieee.Fits.{and-l, and-r, up-pos, down-pos}
 use lib.Ieee.Exact.{HasValue}
 use lib.Ieee.Nearest.{div-same}
 use lib.Ieee.Scale.{round-same}
@@ -21,7 +21,6 @@ use Rattle.numbers.specs.Parts.{Parted, Rooted}
 use Rattle.numbers.specs.Root.{floorRoot, squareUnits, rootOf, sqrtOf}
 use Rattle.numbers.proofs.FloorRoot.{floor-root, square-mono, square-lt-back}
 use Rattle.numbers.proofs.Between.{round-between}
-use Rattle.numbers.proofs.LnLaws.{held}
 use Rattle.numbers.proofs.Plain.{Plain}
 
 pow-lt-back : (i p : ℕ) → 2 ^ i < 2 ^ p → i < p
@@ -150,8 +149,8 @@ module _ (q rest g n r : ℕ) (G : 0 < g) (R : rest ≤ 2 * q) (NI : n ≡ (q * 
   over-pos : 0 < rest → 0 < 2 * (beyond .0) + sticky
   over-pos p = go (eqb (r * r) n) refl
     where
-      some : (b t : ℕ) → (b ≡ 0 → ⊥) → 0 < 2 * b + t
-      some b t h = omega arith
+      rest-pos : (b t : ℕ) → (b ≡ 0 → ⊥) → 0 < 2 * b + t
+      rest-pos b t h = omega arith
 
       last : (b : ℕ) → 0 < 2 * b + 1
       last b = omega arith
@@ -160,7 +159,8 @@ module _ (q rest g n r : ℕ) (G : 0 < g) (R : rest ≤ 2 * q) (NI : n ≡ (q * 
       plus x b e h = omega arith
 
       go : (t : Bool) → eqb (r * r) n ≡ t → 0 < 2 * (beyond .0) + cond t 0 1
-      go true e = some (beyond .0) 0 (λ h. inexact p (plus (q * g) (beyond .0) (beyond .1) h) (eqb-true (r * r) n e))
+      go true e =
+          rest-pos (beyond .0) 0 (λ h. inexact p (plus (q * g) (beyond .0) (beyond .1) h) (eqb-true (r * r) n e))
       go false e = last (beyond .0)
 
   over-lt : 2 * (beyond .0) + sticky < 2 * g
@@ -198,10 +198,11 @@ module _ (q rest g n r : ℕ) (G : 0 < g) (R : rest ≤ 2 * q) (NI : n ≡ (q * 
             ∙ round-between f false q i H (2 * (beyond .0) + sticky) g (over-pos p) (subst (λ (x : ℕ). 2 * (beyond .0) + sticky < x) two-g over-lt) G (subst (λ (x : ℕ). g < x) two-g half)
             ∙ ap (λ (x : ℕ). round f false (q * x + g) (2 ^ (low f + 1))) (sym two-g)
             ∙ ap (λ (x : ℕ). round f false x (2 ^ (low f + 1))) right
-            ∙ ap (λ (b : Bool). round f false ((2 * q + cond b 0 1) * g) (2 ^ (low f + 1))) (sym (ne-eqb rest 0 (none rest p)))
+            ∙ ap (λ (b : Bool). round f false ((2 * q + cond b 0 1) * g) (2 ^ (low f + 1)))
+            (sym (ne-eqb rest 0 (not-zero rest p)))
           where
-            none : (x : ℕ) → 0 < x → x ≡ 0 → ⊥
-            none x a b = omega arith
+            not-zero : (x : ℕ) → 0 < x → x ≡ 0 → ⊥
+            not-zero x a b = omega arith
 
 -- ---- the root of m * 2 ^ e, from the parts sig * 2 ^ j / 2 ^ 1074 of that value
 enough : (f : Format) → 2 ^ prec f ≤ 2 ^ 55
@@ -265,8 +266,17 @@ module _ (f : Format) (m : ℕ) (e : ℤ) (sig j w k i : ℕ) (R : Rooted sig j 
       go : (l : ℕ) → i + 1073 ≡ k + l → k + (l + 1) ≡ i + 1074
       go l h = omega arith
 
+-- an f32 is a multiple of 2 ^ -149
+fine : (m : ℕ) (e : ℤ) → T (fits binary32 (fin false (suc m) e)) → down e ≤ 2 ^ 149
+unfolding fits
+fine m e h =
+    let A = eqb (suc m % 2) 1 && ltb (suc m) (2 ^ 24) in
+    leb→le (down e) (2 ^ 149)
+    (and-r A (leb (down e) (2 ^ 149))
+    (and-l (A && leb (down e) (2 ^ 149)) (ltb (suc m * up e) (2 ^ 128 * down e)) h))
+
 -- ---- a v that is finite and above zero, and its parts
-module _ (v : Float) (p : Plain v) (a : Parts) (A : Parted v a) where
+module _ (v : Float) (p : Plain v) (a : Parts) (A : Parted binary64 v a) where
   abbrev m : ℕ
   m = suc (p .0)
 
@@ -305,7 +315,7 @@ module _ (v : Float) (p : Plain v) (a : Parts) (A : Parted v a) where
   root32 F w k R r h = h ∙ rooted binary32 m e (a .sig) (a .j) w k (k - 924) R value (back k far) ∙ ap (sqrtOf binary32) (sym (p .2))
     where
       d : down e ≤ 2 ^ 149
-      d = held (p .0) e (subst (λ (x : Float). T (fits binary32 x)) (p .2) F) .1
+      d = fine (p .0) e (subst (λ (x : Float). T (fits binary32 x)) (p .2) F)
 
       gap : 925 + R .sh < 64 + a .j
       gap = pow-lt-back (925 + R .sh) (64 + a .j)

@@ -141,6 +141,28 @@ module _ (f : Format) (c : ℕ) (C : low f + c ≡ 1074) (m i j : ℕ) (lo : 2 ^
       join : (x y : ℕ) → x ≤ y → y ≡ x + (y - x)
       join x y g = omega arith
 
+  -- the leading one is brought to bit 63, by z places, and all but prec digits are cut off
+  pub kept-top : (z : ℕ) → z + suc i ≡ 64 → c + prec f ≤ suc i + j
+      → closest (m * 2 ^ z % 2 ^ 64) (2 ^ (64 - prec f)) ≡ kept
+  kept-top z e h =
+      ap (λ (x : ℕ). closest x (2 ^ (64 - prec f)))
+      (mod-eq-of-lt (subst (λ (x : ℕ). m * 2 ^ z < 2 ^ x) (places e) (shl-lt (suc i) z hi)))
+      ∙ closest-same (m * 2 ^ z) (2 ^ (64 - prec f)) a (2 ^ (c + k)) (pow-pos (64 - prec f)) (pow-pos (c + k))
+      (mul-assoc m (2 ^ z) (2 ^ (c + k))
+      ∙ ap (λ (x : ℕ). m * x) (sym (pow-add 2 z (c + k)) ∙ ap (λ (x : ℕ). 2 ^ x) (fit (prec f) (short f) e h)
+      ∙ pow-add 2 j (64 - prec f))
+      ∙ sym (mul-assoc m (2 ^ j) (2 ^ (64 - prec f))))
+    where
+      places : z + suc i ≡ 64 → suc i + z ≡ 64
+      places g = omega arith
+
+      short : (g : Format) → prec g ≤ 64
+      short binary32 = lit≤ tt
+      short binary64 = lit≤ tt
+
+      fit : (p : ℕ) → p ≤ 64 → z + suc i ≡ 64 → c + p ≤ suc i + j → z + (c + (suc i + j - (c + p))) ≡ j + (64 - p)
+      fit p a b g = omega arith
+
 -- ---- zero
 pub round-zero : (f : Format) (s : Bool) (m j : ℕ) → m ≡ 0 → round f s (m * 2 ^ j) (2 ^ 1074) ≡ units f s 0 0
 round-zero f s m j e = ap (λ (x : ℕ). round f s x (2 ^ 1074)) (ap (λ (x : ℕ). x * 2 ^ j) e ∙ zero-mul (2 ^ j)) ∙ at f
@@ -180,6 +202,15 @@ module _ (f : Format) (c : ℕ) (C : low f + c ≡ 1074) (m j K : ℕ) (M : m < 
       ap (λ (x : ℕ). closest m (2 ^ (c + x - j))) K-is
       ∙ kept-cut f c C m (d .0) j (d .2) (d .3) (subst (λ (x : ℕ). j ≤ c + x) K-is h)
 
+  word-top : c + prec f ≤ 64 - leadingZeros 64 m + j
+      → closest (m * 2 ^ leadingZeros 64 m % 2 ^ 64) (2 ^ (64 - prec f)) ≡ word-kept
+  word-top h =
+      kept-top f c C m (d .0) j (d .2) (d .3) (leadingZeros 64 m)
+      (all (leadingZeros 64 m) (d .0) (leading-le 64 m) (d .1)) (subst (λ (x : ℕ). c + prec f ≤ x + j) (d .1) h)
+    where
+      all : (z i : ℕ) → z ≤ 64 → 64 - z ≡ suc i → z + suc i ≡ 64
+      all z i h e = omega arith
+
   word-ok : (q : ℕ) → q ≡ word-kept → (q ≤ 2 ^ prec f) × ((K ≡ 0) ⊎ (hid f ≤ q))
   word-ok q e = (
     subst (λ (x : ℕ). x ≤ 2 ^ prec f) (sym e) (kept-hi f c C m (d .0) j (d .2) (d .3)),
@@ -197,6 +228,8 @@ pub record Word (f : Format) (m j K X : ℕ) : Type 0 where
   pub keeps : ℕ
   pub shl : X ≤ j → m * 2 ^ (j - X) % 2 ^ 64 ≡ keeps
   pub cut : j ≤ X → closest m (2 ^ (X - j)) ≡ keeps
+  pub top : 1074 + prec f ≤ low f + (64 - leadingZeros 64 m + j)
+      → closest (m * 2 ^ leadingZeros 64 m % 2 ^ 64) (2 ^ (64 - prec f)) ≡ keeps
   pub ok : (q : ℕ) → q ≡ keeps → (q ≤ 2 ^ prec f) × ((K ≡ 0) ⊎ (hid f ≤ q))
   pub is : (s : Bool) (q : ℕ) → q ≡ keeps → units f s q K ≡ round f s (m * 2 ^ j) (2 ^ 1074)
 
@@ -205,9 +238,13 @@ word f c C m j K X M N KI e = record {
   keeps = word-kept f c C m j K M N KI;
   shl = subst (λ (x : ℕ). x ≤ j → m * 2 ^ (j - x) % 2 ^ 64 ≡ word-kept f c C m j K M N KI) e (word-shl f c C m j K M N KI);
   cut = subst (λ (x : ℕ). j ≤ x → closest m (2 ^ (x - j)) ≡ word-kept f c C m j K M N KI) e (word-cut f c C m j K M N KI);
+  top = λ h. word-top f c C m j K M N KI (less (low f) (prec f) (64 - leadingZeros 64 m + j) C h);
   ok = word-ok f c C m j K M N KI;
   is = word-round f c C m j K M N KI;
 }
+  where
+    less : (l p w : ℕ) → l + c ≡ 1074 → 1074 + p ≤ l + w → c + p ≤ w
+    less l p w e h = omega arith
 
 -- ---- num / 2 ^ k, as the `nearest` functions have it
 pub ratio-is : (f : Format) (s : Bool) (num k : ℕ) → k ≤ 1074 → round f s (num * 2 ^ (1074 - k)) (2 ^ 1074) ≡ round f s num (2 ^ k)
@@ -217,18 +254,3 @@ ratio-is f s num k h =
   where
     go : (x : ℕ) → x ≤ 1074 → 1074 - x + x ≡ 1074
     go x g = omega arith
-
--- an m from 2 ^ 52 below 2 ^ 53 has 53 digits
-pub size-53 : (m : ℕ) → 2 ^ 52 ≤ m → m < 2 ^ 53 → 64 - leadingZeros 64 m ≡ 53
-size-53 m a b =
-    let d = digits-of m (wide m b) (some m a) in
-    d .1 ∙ ap suc (le-antisymm (le-of-suc-le-suc (pow-back (d .0) 53 (lt-of-le-of-lt (d .2) b))) (le-of-suc-le-suc (pow-back 52 (suc (d .0)) (lt-of-le-of-lt a (d .3)))))
-  where
-    wide : (x : ℕ) → x < 2 ^ 53 → x < 2 ^ 64
-    wide x h = omega arith
-
-    some : (x : ℕ) → 2 ^ 52 ≤ x → x ≡ 0 → ⊥
-    some x h e = omega arith
-
-    pow-back : (i p : ℕ) → 2 ^ i < 2 ^ p → i < p
-    pow-back i p h = lt-of-not-le (λ (g : p ≤ i). lt-irrefl (2 ^ i) (lt-of-lt-of-le h (pow-mono g)))

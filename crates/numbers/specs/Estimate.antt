@@ -1,5 +1,6 @@
--- How a root is estimated, in floats, before it is tested in whole numbers. No result rests on an estimate; it is written down so that no change of the code passes unseen.
--- Definitions only.
+-- How a root is estimated, in floats, before it is tested: an f64's by its square, in whole numbers; an f32's by the
+-- squares of the two middles beside it, which are exact in f64. No result rests on an estimate; it is written down so
+-- that no change of the code passes unseen. Definitions only.
 use mathlib.Core.Bool.{Bool, _&&_, not, cond}
 use Prim.Native.Nat.{ℕ, _+_, _-_, _*_, _/_, _%_, _^_}
 use lib.Count.{leadingZeros}
@@ -8,8 +9,8 @@ use lib.Ieee.{Float, binary32, binary64, ofBits, toBits, lt, le, mul, sub}
 use Rattle.numbers.specs.Root.{sqrtOf}
 
 -- the largest u64: no root is certified
-abbrev pub none : ℕ
-none = 2 ^ 64 - 1
+abbrev pub uncertified : ℕ
+uncertified = 2 ^ 64 - 1
 
 -- y * (1.5 - h * y * y): one step of Newton's towards 1 / the root of 2 * h
 unfoldable pub newtonOf : Float → Float → Float
@@ -60,8 +61,8 @@ estimate64Of m = cond (ltb 1 (leadingZeros 64 m)) (2 ^ 55) (digitsOf (nearRoot (
 
 -- q, moved by what is left of the square, r modulo 2 ^ 64
 abbrev pub correctedOf : ℕ → ℕ → ℕ
-correctedOf q r = cond (ltb r (2 ^ 63)) (q + r / (2 * q)) (q - 1 - (none - r) / (2 * q))
+correctedOf q r = cond (ltb r (2 ^ 63)) (q + r / (2 * q)) (q - 1 - (uncertified - r) / (2 * q))
 
--- x * 2 ^ 28 - y, or none where that is below zero or x has more than 35 digits
+-- x * 2 ^ 28 - y, or `uncertified` where that is below zero or x has more than 35 digits
 abbrev pub liftedOf : ℕ → ℕ → ℕ
-liftedOf x y = cond (ltb x (2 ^ 35) && leb y (x * 2 ^ 28)) (x * 2 ^ 28 - y) none
+liftedOf x y = cond (ltb x (2 ^ 35) && leb y (x * 2 ^ 28)) (x * 2 ^ 28 - y) uncertified

@@ -57,14 +57,6 @@ lnOf (fin s zero e) = nan
 lnOf (fin true (suc m) e) = nan
 lnOf (fin false (suc m) e) = scaled (fixed (suc m) e)
 
--- y has v's leading one at bit 31, and e is its exponent, with 1075 more: the logarithm follows from e and the digits of y
-pub record Begun (v : Float) (y e : ℕ) : Type 0 where
-  pub low : 2 ^ 31 ≤ y
-  pub high : y < 2 ^ 32
-  pub least : 926 ≤ e
-  pub most : e < 1203
-  pub is : (t : ℕ) → t ≡ digits 24 y 0 → scaled (minus (e * 2 ^ 24 + t) (1075 * 2 ^ 24)) ≡ lnOf v
-
 -- refusal 10: the input is not finite and positive
 unfoldable pub lnSaid : Float → Said
 unfolding lnOf

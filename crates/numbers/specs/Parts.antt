@@ -4,17 +4,27 @@ use mathlib.Core.Path.{_≡_}
 use mathlib.Core.Bool.{cond}
 use Prim.Native.Nat.{ℕ, _+_, _-_, _*_, _%_, _^_, _≤_, _<_}
 use lib.Dec.{eqb}
-use lib.Ieee.{Float}
+use lib.Ieee.{Float, Format, emax, hid, low, minus, prec}
 use lib.Ieee.Exact.{HasValue}
+use Rattle.numbers.specs.Log.{digits, lnOf, scaled}
 use Rattle.numbers.specs.declared.rounding.Parts.{Parts}
 use Rattle.numbers.specs.declared.root.Extract.{Extract}
 
--- v is sig * 2 ^ j / 2 ^ 1074, negative where neg is true; sig has 53 digits, or fewer where j is 0
-pub record Parted (v : Float) (p : Parts) : Type 0 where
-  pub value : HasValue v (p .neg) (p .sig * 2 ^ p .j) (2 ^ 1074)
-  pub small : p .sig < 2 ^ 53
-  pub near : p .j < 2046
-  pub lead : (p .j ≡ 0) ⊎ (2 ^ 52 ≤ p .sig)
+-- v is sig * 2 ^ j of the format's smallest value, negative where neg is true; sig has as many digits as the format,
+-- or fewer where j is 0
+pub record Parted (f : Format) (v : Float) (p : Parts) : Type 0 where
+  pub value : HasValue v (p .neg) (p .sig * 2 ^ p .j) (2 ^ low f)
+  pub small : p .sig < 2 ^ prec f
+  pub near : p .j < 2 * emax f
+  pub lead : (p .j ≡ 0) ⊎ (hid f ≤ p .sig)
+
+-- y has v's leading one at bit 31, and e is its exponent, with 149 more: the logarithm follows from e
+-- and the digits of y
+pub record Begun (v : Float) (y e : ℕ) : Type 0 where
+  pub low : 2 ^ 31 ≤ y
+  pub high : y < 2 ^ 32
+  pub most : e < 277
+  pub is : (t : ℕ) → t ≡ digits 24 y 0 → scaled (minus (e * 2 ^ 24 + t) (149 * 2 ^ 24)) ≡ lnOf v
 
 -- q is the whole part of the root of m * 2 ^ 48
 pub record Extracted (m : ℕ) (r : Extract) : Type 0 where

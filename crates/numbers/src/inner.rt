@@ -1,68 +1,63 @@
 // The logarithm and the roots as the layers above call them, which know what they hand in.
-use crate::log::log_digits;
 use crate::log::two_digits;
 use crate::root::pattern_below;
 use crate::root::positive_root32;
 use crate::root::positive_root64;
 use crate::rounding::ratio32;
-use crate::rounding::take_apart;
+use crate::rounding::take_apart32;
 ghost use mathlib.Core.Path.{_≡_};
 ghost use lib.Dec.{T};
 ghost use mathlib.Core.Bool.{not};
 ghost use lib.Ieee.{binary32, binary64, isNan, lt, minus};
 ghost use Prim.Native.Nat.{_+_, _*_, _^_, _<_, _≤_};
 ghost use lib.Ieee.Positive.{positive};
-ghost use Rattle.numbers.specs.Log.{Begun, lnOf, scaled};
+ghost use Rattle.numbers.specs.Log.{lnOf, scaled};
+ghost use Rattle.numbers.specs.Parts.{Begun};
 ghost use Rattle.numbers.specs.Root.{sqrtOf};
+
+// Where a logarithm begins: the leading one brought to bit 31, and the exponent, 149 more than it is.
+pub(crate) struct Lead {
+    pub y: u64,
+    pub e: u64,
+}
+
+// Where the logarithm of a v that is finite and above zero begins: the leading zeros of its significand
+// give shift and exponent.
+pub(crate) fn lead_of(v: f32) -> Lead
+    requires { ⌜ T (positive v) ⌝ }
+    ensures { λ r. ⌜ Begun v (r .y) (r .e) ⌝ }
+{
+    let p = take_apart32(v);
+    // 40 of 64 places for 24 digits, and more for a subnormal
+    let z = u64::leading_zeros(p.sig);
+    Lead {
+        y: p.sig << (z - 32),
+        e: (p.j as u64) + 63 - z as u64,
+    }
+}
+
+// The logarithm from the exponent and the digits.
+pub(crate) fn log_from(e: u64, t: u64) -> f32
+    requires { ⌜ (e < 277) × (t < 2 ^ 24) ⌝ }
+    ensures { λ r. ⌜ r ≡ scaled (minus (e * 2 ^ 24 + t) (149 * 2 ^ 24)) ⌝ }
+{
+    let hi = e * 16777216 + t;
+    // 149 * 2^24
+    if 2499805184 <= hi {
+        return ratio32(false, (hi - 2499805184) * 2977044472, 56);
+    }
+    ratio32(true, (2499805184 - hi) * 2977044472, 56)
+}
 
 // The natural logarithm of a v that is finite and above zero.
 pub fn ln_of(v: f32) -> f32
     requires { ⌜ T (positive v) ⌝ }
     ensures { λ r. ⌜ r ≡ lnOf v ⌝ }
 {
-    let p = take_apart(v as f64);
-    // the leading one is brought to bit 63, and then to bit 31
-    let z = u64::leading_zeros(p.sig);
-    let t = log_digits((p.sig << z) >> 32);
-    // E + 1075 places, and 1075
-    let hi = (((p.j as u64) + 64 - z as u64) << 24) + t;
-    let lo = 1075u64 << 24;
-    if lo <= hi {
-        return ratio32(false, (hi - lo) * 2977044472, 56);
-    }
-    ratio32(true, (lo - hi) * 2977044472, 56)
-}
-
-// Where a logarithm begins: the leading one brought to bit 31, and the exponent, 1075 more than it is.
-pub(crate) struct Lead {
-    pub y: u64,
-    pub e: u64,
-}
-
-// Where the logarithm of a v that is finite and above zero begins.
-pub(crate) fn lead_of(v: f32) -> Lead
-    requires { ⌜ T (positive v) ⌝ }
-    ensures { λ r. ⌜ Begun v (r .y) (r .e) ⌝ }
-{
-    let p = take_apart(v as f64);
-    let z = u64::leading_zeros(p.sig);
-    Lead {
-        y: (p.sig << z) >> 32,
-        e: (p.j as u64) + 64 - z as u64,
-    }
-}
-
-// The logarithm from the exponent and the digits.
-pub(crate) fn log_from(e: u64, t: u64) -> f32
-    requires { ⌜ (926 ≤ e) × (e < 1203) ⌝ }
-    requires { ⌜ t < 2 ^ 24 ⌝ }
-    ensures { λ r. ⌜ r ≡ scaled (minus (e * 2 ^ 24 + t) (1075 * 2 ^ 24)) ⌝ }
-{
-    let hi = e * 16777216 + t;
-    if 18035507200 <= hi {
-        return ratio32(false, (hi - 18035507200) * 2977044472, 56);
-    }
-    ratio32(true, (18035507200 - hi) * 2977044472, 56)
+    let k = lead_of(v);
+    // of one number twice, which the compiler works out once
+    let t = two_digits(k.y, k.y);
+    log_from(k.e, t.a)
 }
 
 // Two logarithms.

@@ -1,4 +1,5 @@
-// Roots, rounding and the logarithm of document 01, computed over whole numbers.
+// Roots, rounding and the logarithm of document 01, over whole numbers: the one float product that a result rests on,
+// in `root::pattern_below`, is exact.
 pub mod inner;
 pub mod log;
 pub mod root;

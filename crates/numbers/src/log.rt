@@ -2,58 +2,52 @@
 use crate::Answer32;
 use crate::inner::ln_of;
 ghost use mathlib.Core.Path.{_≡_};
-ghost use Prim.Native.Nat.{ℕ, _^_, _<_, _≤_};
+ghost use Prim.Native.Nat.{ℕ, _+_, _*_, _^_, _<_, _≤_};
 ghost use Rattle.numbers.specs.Answers.{said32};
-ghost use Rattle.numbers.specs.Log.{digits, lnSaid};
+ghost use Rattle.numbers.specs.Log.{digit, digits, lnSaid, next};
 
-// 24 binary digits of the logarithm of y / 2^31 to the base 2, by squaring.
-pub(crate) fn log_digits(y: u64) -> u64
-    requires { ⌜ (2 ^ 31 ≤ y) × (y < 2 ^ 32) ⌝ }
-    ensures { λ r. ⌜ (r ≡ digits 24 y 0) × (r < 2 ^ 24) ⌝ }
+// Where the squaring stands: the number, and the digits that it gave so far.
+pub(crate) struct Squaring {
+    pub y: u64,
+    pub t: u64,
+}
+
+// One square and one digit more.
+pub(crate) fn one_digit(q: Squaring) -> Squaring
+    requires { ⌜ (2 ^ 31 ≤ q .y) × (q .y < 2 ^ 32) × (q .t < 2 ^ 24) ⌝ }
+    ensures { λ r. ⌜ (r .y ≡ next (q .y)) × (r .t ≡ 2 * q .t + digit (q .y)) ⌝ }
 {
-    let mut y = y;
-    let mut t: u64 = 0;
-    let mut i: u32 = 0;
-    while i < 24 {
-        let s = (y * y) >> 31;
-        // 1 where s is at least 2^32
-        let bit = s >> 32;
-        y = s >> bit;
-        t = 2 * t + bit;
-        i += 1;
+    let s = (q.y * q.y) >> 31;
+    // 1 where s is at least 2^32
+    let bit = s >> 32;
+    Squaring {
+        y: s >> bit,
+        t: 2 * q.t + bit,
     }
-    t
 }
 
 // The digits of two logarithms.
-pub struct Digits {
+pub(crate) struct Digits {
     pub a: u64,
     pub b: u64,
 }
 
-// The same of two numbers: the steps of one do not wait for those of the other.
+// 24 binary digits of the logarithms of y / 2^31 and z / 2^31 to the base 2, by squaring: the steps of one do not wait
+// for those of the other.
 pub(crate) fn two_digits(y: u64, z: u64) -> Digits
     requires { ⌜ (2 ^ 31 ≤ y) × (y < 2 ^ 32) ⌝ }
     requires { ⌜ (2 ^ 31 ≤ z) × (z < 2 ^ 32) ⌝ }
     ensures { λ r. ⌜ ((r .a ≡ digits 24 y 0) × (r .a < 2 ^ 24)) × ((r .b ≡ digits 24 z 0) × (r .b < 2 ^ 24)) ⌝ }
 {
-    let mut y = y;
-    let mut z = z;
-    let mut a: u64 = 0;
-    let mut b: u64 = 0;
+    let mut p = Squaring { y, t: 0 };
+    let mut q = Squaring { y: z, t: 0 };
     let mut n: u32 = 0;
     while n < 24 {
-        let s = (y * y) >> 31;
-        let p = s >> 32;
-        y = s >> p;
-        a = 2 * a + p;
-        let r = (z * z) >> 31;
-        let q = r >> 32;
-        z = r >> q;
-        b = 2 * b + q;
+        p = one_digit(p);
+        q = one_digit(q);
         n += 1;
     }
-    Digits { a, b }
+    Digits { a: p.t, b: q.t }
 }
 
 // The natural logarithm of v, refused by 10.

@@ -1,4 +1,5 @@
-// IEEE's square root of an f32 and of an f64, over whole numbers (document 01, "Root, rounding, logarithm").
+// IEEE's square root of an f32 and of an f64 (document 01, "Root, rounding, logarithm"). It is certified in whole
+// numbers, or worked out in them digit by digit; but an f32's is certified by a product of f64, an exact one.
 use crate::Answer32;
 use crate::Answer64;
 use crate::inner::root32;
@@ -181,7 +182,8 @@ fn digits_root32(v: f32) -> f32
 }
 
 // Whether the f32 with the pattern c, a normal one, is below the rounded root of v.
-// The middle between it and the next f32 has 25 digits, so that its square is exact in f64.
+// The middle between it and the next f32 has 25 digits and its square 50, of the 53 that an f64 has: the product is
+// exact, and the test is that of the whole numbers, with no exponents to bring together.
 pub(crate) fn pattern_below(c: u32, v: f32) -> bool
     requires { ⌜ (2 ^ 23 ≤ c) × (c < 254 * 2 ^ 23) × T (positive v) ⌝ }
     ensures { λ r. ⌜ r ≡ lt (ofBits binary32 c) (sqrtOf binary32 v) ⌝ }

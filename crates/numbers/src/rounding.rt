@@ -77,13 +77,16 @@ pub(crate) fn nearest32(neg: bool, m: u64, j: u16) -> f32
         return pack32(neg, 0, 0);
     }
     let x = j as u32;
-    let z = 64 - u64::leading_zeros(m);
-    // how many digits of the whole part, in units of the smallest f32, an f32 drops
-    let k = less(z + x, 949);
-    if 925 + k <= x {
-        pack32(neg, m << (x - (925 + k)), k)
+    let z = u64::leading_zeros(m);
+    // a normal f32 keeps 24 digits of the 64 that m has with its leading one brought to bit 63
+    if 885 + z <= x {
+        return pack32(neg, rounded(m << z, 40), x - (885 + z));
+    }
+    // a smaller one is a whole number of the smallest
+    if 925 <= x {
+        pack32(neg, m << (x - 925), 0)
     } else {
-        pack32(neg, rounded(m, 925 + k - x), k)
+        pack32(neg, rounded(m, 925 - x), 0)
     }
 }
 
@@ -103,7 +106,7 @@ pub(crate) fn finite64(v: f64) -> bool
     if -top < v { v < top } else { false }
 }
 
-// A finite f64 is sig * 2^j / 2^1074, negative where `neg`.
+// A finite f64 is sig * 2^j / 2^1074, and an f32 is sig * 2^j / 2^149, negative where `neg`.
 pub(crate) struct Parts {
     pub neg: bool,
     pub sig: u64,
@@ -112,7 +115,7 @@ pub(crate) struct Parts {
 
 pub(crate) fn take_apart(v: f64) -> Parts
     requires { ⌜ T (finite v) ⌝ }
-    ensures { λ r. ⌜ Parted v r ⌝ }
+    ensures { λ r. ⌜ Parted binary64 v r ⌝ }
 {
     let b = f64::to_bits(v);
     let neg = b >= 0x8000_0000_0000_0000;
@@ -133,20 +136,27 @@ pub(crate) fn take_apart(v: f64) -> Parts
     }
 }
 
-// The same for an m of 53 digits and a normal f32, which drops 29 of them.
-fn normal32(neg: bool, m: u64, j: u16) -> f32
-    requires { ⌜ (2 ^ 52 ≤ m) × (m < 2 ^ 53) × (896 < j) ⌝ }
-    ensures { λ r. ⌜ r ≡ round binary32 neg (m * 2 ^ j) (2 ^ 1074) ⌝ }
+pub(crate) fn take_apart32(v: f32) -> Parts
+    requires { ⌜ T (finite v) ⌝ }
+    ensures { λ r. ⌜ Parted binary32 v r ⌝ }
 {
-    pack32(neg, rounded(m, 29), (j - 896) as u32)
-}
-
-// The same for what is smaller.
-fn small32(neg: bool, m: u64, j: u16) -> f32
-    requires { ⌜ j ≤ 896 ⌝ }
-    ensures { λ r. ⌜ r ≡ round binary32 neg (m * 2 ^ j) (2 ^ 1074) ⌝ }
-{
-    nearest32(neg, m, j)
+    let b = f32::to_bits(v);
+    let neg = b >= 0x8000_0000;
+    let field = (b >> 23) & 0xff;
+    let low = (b & 0x7f_ffff) as u64;
+    if field == 0 {
+        Parts {
+            neg,
+            sig: low,
+            j: 0,
+        }
+    } else {
+        Parts {
+            neg,
+            sig: low + 0x80_0000,
+            j: (field - 1) as u16,
+        }
+    }
 }
 
 // The f32 nearest to v, a tie to the even one. A NaN gives a NaN, and an infinity the infinity.
@@ -155,10 +165,7 @@ pub fn narrow(v: f64) -> f32
 {
     if finite64(v) {
         let p = take_apart(v);
-        if 896 < p.j {
-            return normal32(p.neg, p.sig, p.j);
-        }
-        return small32(p.neg, p.sig, p.j);
+        return nearest32(p.neg, p.sig, p.j);
     }
     if v != v {
         return 0.0 / 0.0;

@@ -1,3 +1,4 @@
+pub mod Examples
 pub mod Locking
 pub mod Reading
 pub mod Soundness

@@ -1,3 +1,4 @@
+pub mod Examples
 pub mod Lock
 pub mod Model
 pub mod Readings

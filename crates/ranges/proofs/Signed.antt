@@ -77,15 +77,16 @@ le→signed (fin false m e) (fin true n d) p q h =
 -- any a and b are below level or both zero
 pub from-signs : (a b : ℕ) → T (ltb 0 (a + b) || (eqb a b && eqb a 0))
 from-signs a b = elim (eq-zero-or-pos (a + b)) [
-  | inl z ↦ or-r (ltb 0 (a + b)) (eqb a b && eqb a 0) (and-i (eqb a b) (eqb a 0) (eq→eqb (same a b z)) (eq→eqb (none a b z)))
+  | inl z ↦ or-r (ltb 0 (a + b)) (eqb a b && eqb a 0)
+      (and-i (eqb a b) (eqb a 0) (eq→eqb (same a b z)) (eq→eqb (first-zero a b z)))
   | inr q ↦ or-l (ltb 0 (a + b)) (eqb a b && eqb a 0) (lt→ltb 0 (a + b) q)
 ]
   where
     same : (a b : ℕ) → a + b ≡ 0 → a ≡ b
     same a b z = omega arith
 
-    none : (a b : ℕ) → a + b ≡ 0 → a ≡ 0
-    none a b z = omega arith
+    first-zero : (a b : ℕ) → a + b ≡ 0 → a ≡ 0
+    first-zero a b z = omega arith
 
 pub signed→le : (x y : Float) → T (finite x) → T (finite y) → Cross x y → T (le x y)
 unfolding le

@@ -7,8 +7,8 @@ use borrow.Author.Needs.{needs}
 use Rattle.order.proofs.total_less32.Statement.{statement}
 use Rattle.order.proofs.total_less32.Tie as tie
 
-nan : (c : tie.Then1) → isNan (c .before .args .a) ≡ true
-nan c = sym (nan-is (c .before .args .a)) ∙ c .if1 .taken
+first-nan : (c : tie.Then1) → isNan (c .before .args .a) ≡ true
+first-nan c = sym (nan-is (c .before .args .a)) ∙ c .if1 .taken
 
 number-a : (c : tie.Else1) → isNan (c .before .args .a) ≡ false
 number-a c = sym (nan-is (c .before .args .a)) ∙ c .if1 .left
@@ -17,7 +17,7 @@ number-b : (c : tie.Else2) → isNan (c .before .before .args .b) ≡ false
 number-b c = sym (nan-is (c .before .before .args .b)) ∙ c .if2 .left
 
 returns : tie.Need-returns
-returns c = total-nan _ (c .before .args .b) (nan c)
+returns c = total-nan _ (c .before .args .b) (first-nan c)
 
 returns-2 : tie.Need-returns-2
 returns-2 c = total-over _ _ (number-a (c .before)) (sym (nan-is (c .before .before .args .b)) ∙ c .if2 .taken)

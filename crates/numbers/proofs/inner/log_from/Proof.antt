@@ -3,43 +3,31 @@ use Rattle.numbers.proofs.LnLaws.{scaled-over, scaled-under}
 use borrow.Author.Needs.{needs}
 use Rattle.numbers.proofs.inner.log_from.Statement.{statement}
 use Rattle.numbers.proofs.inner.log_from.Tie as tie
-use Rattle.numbers.proofs.inner.log_from.Reads as reads
-use Rattle.numbers.proofs.inner.log_from.Lts as lts
-use Rattle.numbers.proofs.rounding.ratio32.Reads as ratio32-reads
 
--- src/inner.rt:61:14
 mul-hi : tie.Need-mul-hi
 mul-hi c = search needs
 
--- src/inner.rt:61:14
 add-hi : tie.Need-add-hi
 add-hi c = search needs
 
--- src/inner.rt:63:31
 mul-ratio32 : tie.Need-mul-ratio32
 mul-ratio32 c = search needs
 
--- src/inner.rt:63:9
 ratio32-requires : tie.Need-ratio32-requires
 ratio32-requires c κs = search needs
 
--- src/inner.rt:63:9
 returns : tie.Need-returns
 returns c = scaled-over _ (c .ratio32 .result) (c .before .if1 .taken) (c .ratio32 .ensures)
 
--- src/inner.rt:65:20
 sub-ratio32 : tie.Need-sub-ratio32
 sub-ratio32 c = search needs
 
--- src/inner.rt:65:19
 mul-ratio32-2 : tie.Need-mul-ratio32-2
 mul-ratio32-2 c = search needs
 
--- src/inner.rt:65:5
 ratio32-requires-2 : tie.Need-ratio32-requires-2
 ratio32-requires-2 c κs = search needs
 
--- src/inner.rt:56:1
 returns-2 : tie.Need-returns-2
 returns-2 c = scaled-under _ (c .ratio322 .result) (c .before .if1 .left) (c .ratio322 .ensures)
 

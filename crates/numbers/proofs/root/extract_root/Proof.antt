@@ -69,8 +69,8 @@ module _ (m left q rest i : ℕ) (g : Good m left q rest i) (h : i < 56) where
       fits : (d : ℕ) → d ≤ 3 → rest ≤ 2 * q → 4 * q + 1 ≤ 4 * rest + d → 4 * rest + d - (4 * q + 1) ≤ 2 * (2 * q + 1)
       fits d a b k = omega arith
 
-  none : next < 4 * q + 1 → Good m (left * 4 % 2 ^ 64) (2 * q) next (i + 1)
-  none l = (
+  digit-0 : next < 4 * q + 1 → Good m (left * 4 % 2 ^ 64) (2 * q) next (i + 1)
+  digit-0 l = (
     omega arith,
     go (left / 2 ^ 62) ∙ sym next-is,
     left-is,
@@ -133,7 +133,8 @@ loop-again c =
     let m = c .before .before .before .args .m in
     ⊎-elim
     (λ a. moved m (l .left * 4 % 2 ^ 64) (c .if1 .q) (2 * l .q + 1) (c .if1 .rest) (4 * l .rest + l .left / 2 ^ 62 - (4 * l .q + 1)) (l .i + 1) (a .1) (a .2) (one m (l .left) (l .q) (l .rest) (l .i) (l .inv) k (a .0 .taken)))
-    (λ a. moved m (l .left * 4 % 2 ^ 64) (c .if1 .q) (2 * l .q) (c .if1 .rest) (4 * l .rest + l .left / 2 ^ 62) (l .i + 1) (a .1) (a .2) (none m (l .left) (l .q) (l .rest) (l .i) (l .inv) k (a .0 .left)))
+    (λ a. moved m (l .left * 4 % 2 ^ 64) (c .if1 .q) (2 * l .q) (c .if1 .rest) (4 * l .rest + l .left / 2 ^ 62)
+    (l .i + 1) (a .1) (a .2) (digit-0 m (l .left) (l .q) (l .rest) (l .i) (l .inv) k (a .0 .left)))
     (c .if1 .came)
 
 returns : tie.Need-returns Inv-loop μ-loop
