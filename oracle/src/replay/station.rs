@@ -7,9 +7,9 @@
 use super::bank::{code, left, long};
 use super::tracker::tracker;
 use super::{count, flag, line, number, Files};
-use crate::compare::{Difference, Layer};
+use crate::compare::{Difference, Follow, Layer};
 use crate::hullathan::station::Station;
-use crate::layers::station::{watched_case, Both, Call, Event, Stations, GAP, MARK, SWITCH};
+use crate::layers::station::{watched_case, Call, Event, Rust, Stations, GAP, MARK, SWITCH};
 use crate::random::Random;
 use crate::reached::Branch;
 use std::sync::OnceLock;
@@ -64,6 +64,12 @@ impl Layer for Watches {
             let all = Stations::reached().iter().copied();
             all.filter(|b| !far(b)).collect()
         })
+    }
+}
+
+impl Follow for Watches {
+    fn follow(case: &Vec<Call>) {
+        Stations::follow(case);
     }
 }
 
@@ -126,19 +132,19 @@ fn whole(s: &Station) -> String {
     all + "\n"
 }
 
-/// What a script must print.
+/// What a script must print, as the Rust has it.
 fn answers(calls: &[Call]) -> String {
-    let mut both = Both::new();
+    let mut rust = Rust::new();
     let mut all = String::new();
     for (i, call) in calls.iter().enumerate() {
-        let a = both.step(call).expect("the library and the Rust agree");
+        let a = rust.step(call);
         all += &match call {
             Call::Fresh(..) => format!("W{}", code(a.code)),
             _ => format!("E{}{}{}", flag(a.refused), code(a.code), left(&a.left)),
         };
-        all += &books(&both.ours);
+        all += &books(rust.form());
         if shows(calls, i) {
-            all += &whole(&both.ours);
+            all += &whole(rust.form());
         }
     }
     all
@@ -156,6 +162,10 @@ pub fn files() -> Files {
         stdin: text(&calls).into(),
         stdout: answers(&calls),
     }
+}
+
+pub(super) fn unreached() -> Vec<&'static str> {
+    super::missing::<Watches>(&super::reaches::<Watches>(&script()))
 }
 
 /// A watch: text at one speed, three times as slow, and as before.
@@ -183,7 +193,6 @@ fn by_hand() -> Vec<Call> {
 #[cfg(test)]
 mod tests {
     use super::*;
-    use crate::replay::{missing, reaches};
 
     /// What stands in the repository is what the Rust answers to the list there.
     #[test]
@@ -191,12 +200,5 @@ mod tests {
         let calls = script();
         assert!(answers(&calls) == include_str!("../../../crates/station_replay/stdout"));
         assert!(text(&calls) == STDIN);
-    }
-
-    /// The list alone reaches every branch of a short watch.
-    #[test]
-    fn every_branch() {
-        let reached = reaches::<Watches>(&script());
-        assert_eq!(missing::<Watches>(&reached), [""; 0]);
     }
 }
