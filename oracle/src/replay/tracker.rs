@@ -9,7 +9,7 @@
 
 use super::{count, flag, held, line, number, Files};
 use crate::hullathan::tracker::SpeedTracker as Plain;
-use crate::layers::tracker::{parts, random_case, Call, Rust, Told, Tracker, PARTS};
+use crate::layers::tracker::{parts, random_case, Call, Part, Rust, Told, Tracker, PARTS};
 use crate::random::Random;
 
 const STDIN: &str = include_str!("../../../crates/tracker_replay/stdin");
@@ -141,7 +141,38 @@ fn spelled(case: Vec<Call>) -> Vec<Call> {
     fresh.chain(case.into_iter().flat_map(spell)).collect()
 }
 
-/// Document 01's settled examples, and some keyed text.
+/// Every part of a tracker set, in every place and each to another number: a sound tracker about a dit.
+pub(super) fn every_part(dit: f32) -> Vec<(Part, u8, u32)> {
+    let mut all = Vec::new();
+    let mut unit = 0;
+    for part in PARTS {
+        let places = match part {
+            Part::Init | Part::RingDur | Part::RingDit | Part::RingLo | Part::RingHi => 12,
+            Part::Recent => 5,
+            _ => 1,
+        };
+        for i in 0..places {
+            unit += 1;
+            let near = |x: f32| (x + unit as f32 / 16.0).to_bits();
+            let value = match part {
+                Part::Lo | Part::RingLo => near(dit),
+                Part::Hi | Part::RingHi => near(3.0 * dit),
+                Part::Hint => (2.5 + dit / 128.0).to_bits(),
+                Part::Init | Part::RingDur | Part::Recent | Part::Wpm | Part::Egap => near(30.0),
+                Part::InitLen | Part::RingLen => 12,
+                Part::RecentLen => 5,
+                Part::LoN | Part::Regime => unit,
+                Part::RingDit => u32::from(i % 3 == 0),
+                Part::Confirmed | Part::Uncorroborated => 0,
+                _ => 1,
+            };
+            all.push((part, i, value));
+        }
+    }
+    all
+}
+
+/// Document 01's settled examples, every part of a tracker, and some keyed text.
 fn by_hand() -> Vec<Call> {
     let examples: [&[f32]; 10] = [
         &[60.0; 5],
@@ -161,6 +192,10 @@ fn by_hand() -> Vec<Call> {
         s.extend(marks.iter().map(|m| Call::Mark(m.to_bits())));
         s.push(Call::Read);
     }
+    s.push(Call::Fresh);
+    let set = |(part, i, v)| Call::Set(part, i, v);
+    s.extend(every_part(60.0).into_iter().map(set));
+    s.extend([Call::Read, Call::Mark(60f32.to_bits()), Call::Read]);
     s.push(Call::Fresh);
     let mut random = Random::new(3);
     for i in 0..48 {
@@ -194,5 +229,16 @@ mod tests {
         let calls = script();
         assert!(answers(&calls) == include_str!("../../../crates/tracker_replay/stdout"));
         assert!(calls.iter().map(lines).collect::<String>() == STDIN);
+    }
+
+    /// The tracker of which every part is set is a sound one, and has something in every place.
+    #[test]
+    fn every_part_is_sound() {
+        let mut rust = Rust::new();
+        for (part, i, v) in every_part(60.0) {
+            rust.step(&Call::Set(part, i, v));
+        }
+        assert_eq!(crate::refusals::tracker(rust.form()), Ok(()));
+        assert_eq!(every_part(60.0).len(), 18 + 5 * 12 + 5);
     }
 }
