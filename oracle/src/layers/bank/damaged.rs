@@ -148,7 +148,7 @@ fn every_reading() {
         for at in places::<Hypothesis>() {
             assert!(damaged(&|r| r.challenger.2 = turned(&r.challenger.2, at)));
         }
-        for at in places::<Record>() {
+        for at in places_of_numbers::<Record>() {
             assert!(damaged(&|r| r.record.2 = turned(&r.record.2, at)));
         }
     }

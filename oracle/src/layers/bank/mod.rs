@@ -108,7 +108,7 @@ impl PartialEq for Readings {
             && (a.0, a.1) == (b.0, b.1)
             && forms::identical(&a.2, &b.2)
             && (r.0, r.1) == (s.0, s.1)
-            && forms::identical(&r.2, &s.2)
+            && forms::identical_numbers(&r.2, &s.2)
     }
 }
 
