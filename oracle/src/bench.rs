@@ -4,6 +4,8 @@
 pub mod hosts;
 #[cfg(manta)]
 pub mod journal;
+#[cfg(manta)]
+mod turns;
 
 use crate::hullathan::numbers as ours;
 use crate::log01;

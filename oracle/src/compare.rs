@@ -63,6 +63,12 @@ pub trait Layer {
     }
 }
 
+/// A layer whose other side can run by itself.
+pub trait Follow: Layer {
+    /// Runs the Rust's side alone, and counts the branches that it reaches: the library is not called.
+    fn follow(case: &Self::Case);
+}
+
 /// A run of this length must have reached every branch.
 const LONG: Duration = Duration::from_secs(5);
 
@@ -205,7 +211,10 @@ pub fn report<L: Layer>(seed: u64, limit: Limit) -> bool {
     if !all && long {
         println!("{}: a branch was not reached", L::NAME);
     }
-    o.found.is_none() && (all || !long)
+    if o.results == 0 {
+        println!("{}: nothing was compared", L::NAME);
+    }
+    o.found.is_none() && o.results > 0 && (all || !long)
 }
 
 #[cfg(test)]
@@ -259,6 +268,38 @@ mod tests {
         // the seed alone makes the same case
         let again = run::<Forgetful>(seed, Limit::Count(1));
         assert_eq!(again.found.expect("again").case, f.case);
+    }
+
+    /// A layer that compares nothing.
+    struct Empty;
+
+    impl Layer for Empty {
+        type Case = u64;
+        const NAME: &'static str = "empty";
+
+        fn fixed() -> Vec<u64> {
+            vec![1]
+        }
+
+        fn random(random: &mut Random) -> u64 {
+            random.bits()
+        }
+
+        fn run(_: &u64) -> Result<u64, Difference> {
+            Ok(0)
+        }
+
+        fn smaller(_: &u64) -> Vec<u64> {
+            Vec::new()
+        }
+    }
+
+    /// A run that compared nothing does not pass, nor one with a difference.
+    #[test]
+    fn nothing_compared_is_no_success() {
+        assert!(!report::<Empty>(1, Limit::Count(100)));
+        assert!(!report::<Forgetful>(1, Limit::Count(10_000)));
+        assert!(report::<Forgetful>(1, Limit::Count(0)));
     }
 
     #[test]

@@ -172,7 +172,7 @@ pub mod sender {
 
         extern "C" {
             pub fn hullathan_sender_new() -> SenderTiming;
-            pub fn hullathan_sender_observe(
+            pub fn hullathan_sender_observe_by_value(
                 t: SenderTiming,
                 class: u8,
                 dur_ms: f32,
@@ -181,7 +181,7 @@ pub mod sender {
             pub fn hullathan_sender_mean_dits(t: SenderTiming, class: u8) -> Number;
             pub fn hullathan_sender_dash_dot_ratio(t: SenderTiming) -> Number;
             pub fn hullathan_sender_word_dits(t: SenderTiming) -> Number;
-            pub fn hullathan_sender_is_pause(t: SenderTiming, dits: f32) -> Flag;
+            pub fn hullathan_sender_is_pause_by_value(t: SenderTiming, dits: f32) -> Flag;
             pub fn hullathan_sender_estimates(t: SenderTiming, dit_ms: f32) -> Report;
         }
     }
@@ -193,7 +193,7 @@ pub mod sender {
     }
 
     pub fn observe(t: SenderTiming, class: u8, dur_ms: f32, dit_ms: f32) -> Observed {
-        unsafe { c::hullathan_sender_observe(t, class, dur_ms, dit_ms) }
+        unsafe { c::hullathan_sender_observe_by_value(t, class, dur_ms, dit_ms) }
     }
 
     pub fn mean_dits(t: SenderTiming, class: u8) -> Number {
@@ -209,7 +209,7 @@ pub mod sender {
     }
 
     pub fn is_pause(t: SenderTiming, dits: f32) -> Flag {
-        unsafe { c::hullathan_sender_is_pause(t, dits) }
+        unsafe { c::hullathan_sender_is_pause_by_value(t, dits) }
     }
 
     pub fn estimates(t: SenderTiming, dit_ms: f32) -> Report {

@@ -5,6 +5,7 @@ pub mod compare;
 #[cfg(manta)]
 pub mod examples;
 pub mod exhaustive;
+pub mod forms;
 pub mod hullathan;
 #[cfg(manta)]
 pub mod journal;

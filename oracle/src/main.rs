@@ -19,7 +19,9 @@ oracle bench tracker               nanoseconds for one mark, beside manta's
 oracle bench bank                  the same of a bank
 oracle bench station               nanoseconds for one mark, one gap and one switch call of a station
 oracle bench hosts                 nanoseconds for one event of a station, in the hosts' programs too where they are built
-oracle bench journal               lines a second, start and memory of the journal program, beside the Rust's
+oracle bench journal [--instructions]
+                                   lines a second, start and memory of the journal program, beside the Rust's by turns;
+                                   or instructions a line, counted by valgrind's callgrind
 oracle replay LAYER DIR            the fixed list of a layer's program: DIR/stdin, and DIR/stdout, what it must print
 oracle keyed [--width W] [--switching 0|1] [--seed S] {[--wpm N] [--ratio R] [--jitter PERCENT] TEXT | --line LINE}..
                                    the journal of keyed text, each option from its place on; a line has blanks for tabs
@@ -129,12 +131,15 @@ mod beside_manta {
         Ok(stdout().write_all(list.as_bytes()).is_ok())
     }
 
-    fn bench(name: &str) -> Result<bool, String> {
+    fn bench(name: &str, options: &[String]) -> Result<bool, String> {
+        let instructions = options == ["--instructions"];
         match name {
+            "journal" if instructions => return bench::journal::report(true),
+            _ if !options.is_empty() => return Err(format!("{} is not known here", options[0])),
             "tracker" => bench::tracker(),
             "bank" => bench::bank(),
             "station" => bench::station(),
-            "journal" => return bench::journal::report(),
+            "journal" => return bench::journal::report(false),
             "hosts" => return bench::hosts::report(),
             _ => return Err(format!("{name} is not measured")),
         }
@@ -148,7 +153,7 @@ mod beside_manta {
             ("soak", Some((name, options))) if name == "journal" => soak(options),
             ("journal", None) => Ok(journal()),
             ("events", _) => events(rest),
-            ("bench", Some((name, []))) => bench(name),
+            ("bench", Some((name, options))) => bench(name, options),
             _ => Err("the command is not known".into()),
         }
     }

@@ -2,6 +2,11 @@
 //! Lists are cut at their count, and an absent number is one mark of its own: nothing else is part of a state.
 
 use crate::compare::Difference;
+use crate::hullathan::bank::{Bank, Hypothesis};
+use crate::hullathan::sender::SenderTiming;
+use crate::hullathan::station::Station;
+use crate::hullathan::tracker::SpeedTracker;
+use crate::hullathan::Bit;
 
 /// Stands for a number that is absent: no f32 and no count has it.
 const ABSENT: u64 = u64::MAX;
@@ -31,7 +36,7 @@ impl Part {
     }
 }
 
-/// The parts of a state, in the order of the Rust's fields.
+/// The parts of a state in the library's form, in the order of its fields.
 #[derive(Debug, Clone, Default, PartialEq)]
 pub struct State(Vec<Part>);
 
@@ -52,10 +57,6 @@ impl State {
         self.part(name, Kind::Count, n);
     }
 
-    pub fn flag(&mut self, name: &str, b: bool) {
-        self.part(name, Kind::Count, u64::from(b));
-    }
-
     pub fn float_or_absent(&mut self, name: &str, v: Option<f32>) {
         let bits = v.map_or(ABSENT, |v| u64::from(v.to_bits()));
         self.part(name, Kind::Float, bits);
@@ -65,13 +66,23 @@ impl State {
         self.part(name, Kind::Count, n.unwrap_or(ABSENT));
     }
 
-    pub fn floats(&mut self, name: &str, list: impl IntoIterator<Item = f32>) {
-        let at = self.0.len();
-        self.count(&format!("{name}, how many"), 0);
-        for (i, v) in list.into_iter().enumerate() {
+    /// A flag's byte as it is.
+    fn bit(&mut self, name: &str, b: Bit) {
+        self.count(name, u64::from(b.0));
+    }
+
+    /// A number that is held where its flag says so.
+    fn held(&mut self, name: &str, has: Bit, v: f32) {
+        self.bit(&format!("{name}, whether there is one"), has);
+        self.float_or_absent(name, (has != Bit::NO).then_some(v));
+    }
+
+    /// A list's count as it is, and the entries that have a place.
+    pub fn floats(&mut self, name: &str, n: usize, list: &[f32]) {
+        self.count(&format!("{name}, how many"), n as u64);
+        for (i, &v) in list.iter().take(n).enumerate() {
             self.float(&format!("{name}[{i}]"), v);
         }
-        self.0[at].bits = (self.0.len() - at - 1) as u64;
     }
 
     /// The parts of a state within this one, under a name.
@@ -83,117 +94,130 @@ impl State {
     }
 }
 
-/// The first part in which the library's state differs from the Rust's after a call.
-pub fn compare(call: &str, hullathan: &State, rust: &State) -> Result<(), Difference> {
+/// What is said of two states that are not the same: the first part in which they differ; where none of them does, a
+/// byte that is no part of a state is not as it must be.
+pub fn unlike(call: &str, hullathan: &State, rust: &State) -> Difference {
     let show = |s: &State, i: usize| s.0.get(i).map_or("no more parts".into(), Part::show);
     match (0..hullathan.0.len().max(rust.0.len())).find(|&i| hullathan.0.get(i) != rust.0.get(i)) {
-        None => Ok(()),
-        Some(i) => Err(Difference {
+        None => Difference {
+            call: call.to_string(),
+            hullathan: "a byte beyond a count, or of a number that is absent".into(),
+            rust: "zero, or as it was".into(),
+        },
+        Some(i) => Difference {
             call: call.to_string(),
             hullathan: show(hullathan, i),
             rust: show(rust, i),
-        }),
+        },
     }
 }
 
-/// The parts of manta's states.
-#[cfg(manta)]
-mod manta {
-    use super::State;
-    use crate::manta::timing::bank::Origin;
-    use crate::manta::timing::{SenderTiming, SpeedTracker, TimingBank, TimingHypothesis};
-
-    impl From<&SpeedTracker> for State {
-        fn from(t: &SpeedTracker) -> State {
-            let mut s = State::default();
-            s.float("pair.lo", t.pair.lo);
-            s.float("pair.hi", t.pair.hi);
-            s.floats("pair.init", t.pair.init.iter().copied());
-            s.flag("pair.ready", t.pair.ready);
-            s.flag("pair.confirmed", t.pair.confirmed);
-            s.flag("pair.placeholder_is_lo", t.pair.placeholder_is_lo);
-            s.count("pair.lo_n", t.pair.lo_n as u64);
-            s.count("ring, how many", t.ring.len() as u64);
-            for (i, &(dur_ms, is_dit, pre_lo, pre_hi)) in t.ring.iter().enumerate() {
-                s.float(&format!("ring[{i}].dur_ms"), dur_ms);
-                s.flag(&format!("ring[{i}].is_dit"), is_dit);
-                s.float(&format!("ring[{i}].pre_lo"), pre_lo);
-                s.float(&format!("ring[{i}].pre_hi"), pre_hi);
-            }
-            s.float_or_absent("wpm_ema", t.wpm_ema);
-            s.floats("recent", t.recent.iter().copied());
-            s.float_or_absent("mu_egap_ms", t.mu_egap_ms);
-            s.float_or_absent("ratio_hint", t.ratio_hint);
-            s.count("regime", u64::from(t.regime));
-            s.flag("badlock_recovered", t.badlock_recovered);
-            s.flag("lo_uncorroborated", t.lo_uncorroborated);
-            s
+impl From<&SpeedTracker> for State {
+    fn from(t: &SpeedTracker) -> State {
+        let (mut s, p) = (State::default(), &t.pair);
+        s.float("pair.lo", p.lo);
+        s.float("pair.hi", p.hi);
+        s.floats("pair.init", p.init_len, &p.init);
+        s.bit("pair.ready", p.ready);
+        s.bit("pair.confirmed", p.confirmed);
+        s.bit("pair.placeholder_is_lo", p.placeholder_is_lo);
+        s.count("pair.lo_n", p.lo_n as u64);
+        s.count("ring, how many", t.ring_len as u64);
+        for (i, e) in t.ring.iter().take(t.ring_len).enumerate() {
+            s.float(&format!("ring[{i}].dur_ms"), e.dur_ms);
+            s.bit(&format!("ring[{i}].assigned_dit"), e.assigned_dit);
+            s.float(&format!("ring[{i}].pre_lo"), e.pre_lo);
+            s.float(&format!("ring[{i}].pre_hi"), e.pre_hi);
         }
+        s.held("wpm_ema", t.has_wpm, t.wpm_ema);
+        s.floats("recent", t.recent_len, &t.recent);
+        s.held("mu_egap_ms", t.has_egap, t.mu_egap_ms);
+        s.held("ratio_hint", t.has_hint, t.ratio_hint);
+        s.count("regime", u64::from(t.regime));
+        s.bit("badlock_recovered", t.badlock_recovered);
+        s.bit("lo_uncorroborated", t.lo_uncorroborated);
+        s
     }
+}
 
-    impl From<&TimingHypothesis> for State {
-        fn from(h: &TimingHypothesis) -> State {
-            let mut s = State::default();
-            s.within("tracker", State::from(&h.tracker));
-            s.float("score", h.score);
-            s.float("gap_score", h.gap_score);
-            s.count("lead_marks", u64::from(h.lead_marks));
-            s.count("age_marks", u64::from(h.age_marks));
-            let (origin, retain_marks) = match h.origin {
-                Origin::Bootstrap => (0, None),
-                Origin::Streak => (1, None),
-                Origin::FormerPrimary { retain_marks } => (2, Some(u64::from(retain_marks))),
-            };
-            s.count("origin", origin);
-            s.count_or_absent("retain_marks", retain_marks);
-            s.flag("reported", h.reported);
-            s.float("ln_lo", h.ln_lo);
-            s.float("ln_hi", h.ln_hi);
-            s
-        }
+impl From<&Hypothesis> for State {
+    fn from(h: &Hypothesis) -> State {
+        let mut s = State::default();
+        s.within("tracker", State::from(&h.tracker));
+        s.float("score", h.score);
+        s.float("gap_score", h.gap_score);
+        s.count("lead_marks", u64::from(h.lead_marks));
+        s.count("age_marks", u64::from(h.age_marks));
+        s.count("origin", u64::from(h.origin));
+        s.count_or_absent(
+            "retain_marks",
+            (h.origin == 2).then_some(h.retain_marks.into()),
+        );
+        s.bit("reported", h.reported);
+        s.float("ln_lo", h.ln_lo);
+        s.float("ln_hi", h.ln_hi);
+        s.count("serial", h.serial);
+        s
     }
+}
 
-    impl From<&TimingBank> for State {
-        fn from(b: &TimingBank) -> State {
-            let mut s = State::default();
-            s.count("width", b.cfg.width as u64);
-            s.flag("switching", b.cfg.switching);
-            s.float("primary_score", b.primary_score);
-            s.float("primary_gap_score", b.primary_gap_score);
-            s.count("challengers, how many", b.challengers.len() as u64);
-            for (i, h) in b.challengers.iter().enumerate() {
-                s.within(&format!("challengers[{i}]"), State::from(h));
-            }
-            s.floats("streak", b.streak.iter().copied());
-            s.floats("streak_gaps", b.streak_gaps.iter().copied());
-            s.count_or_absent("streak_side", b.streak_side.map(u64::from));
-            s.float_or_absent("last_gap", b.last_gap);
-            s.count("marks_seen", b.marks_seen);
-            s.count("gaps_seen", b.gaps_seen);
-            s.count_or_absent("pending", b.pending.map(|i| i as u64));
-            s.count("log, how many", b.log.len() as u64);
-            for (i, r) in b.log.iter().enumerate() {
-                s.count(&format!("log[{i}].mark_index"), r.mark_index);
-                s.float(&format!("log[{i}].from_dit_ms"), r.from_dit_ms);
-                s.float(&format!("log[{i}].to_dit_ms"), r.to_dit_ms);
-                s.flag(&format!("log[{i}].applied"), r.applied);
-            }
-            s
+impl From<&Bank> for State {
+    fn from(b: &Bank) -> State {
+        let mut s = State::default();
+        s.count("width", b.width as u64);
+        s.bit("switching", b.switching);
+        s.float("primary_score", b.primary_score);
+        s.float("primary_gap_score", b.primary_gap_score);
+        s.count("challengers, how many", b.challengers_len as u64);
+        for (i, h) in b.challengers.iter().take(b.challengers_len).enumerate() {
+            s.within(&format!("challengers[{i}]"), State::from(h));
         }
+        s.floats("streak", b.streak_len, &b.streak);
+        s.floats("streak_gaps", b.streak_gaps_len, &b.streak_gaps);
+        s.bit("streak_side, whether there is one", b.has_side);
+        let side = (b.has_side != Bit::NO).then_some(b.streak_side.0.into());
+        s.count_or_absent("streak_side", side);
+        s.held("last_gap", b.has_last_gap, b.last_gap);
+        s.count("marks_seen", b.marks_seen);
+        s.count("gaps_seen", b.gaps_seen);
+        s.bit("pending, whether there is one", b.has_pending);
+        let pending = (b.has_pending != Bit::NO).then_some(b.pending as u64);
+        s.count_or_absent("pending", pending);
+        s.count("log, how many", b.log_len as u64);
+        for (i, r) in b.log.iter().take(b.log_len).enumerate() {
+            s.count(&format!("log[{i}].mark_index"), r.mark_index);
+            s.float(&format!("log[{i}].from_dit_ms"), r.from_dit_ms);
+            s.float(&format!("log[{i}].to_dit_ms"), r.to_dit_ms);
+            s.bit(&format!("log[{i}].applied"), r.applied);
+        }
+        s.count("started", b.started);
+        s
     }
+}
 
-    impl From<&SenderTiming> for State {
-        fn from(t: &SenderTiming) -> State {
-            let mut s = State::default();
-            for (i, c) in t.stats.iter().enumerate() {
-                s.count(&format!("stats[{i}].n"), u64::from(c.n));
-                // a class that was never observed has no mean
-                let held = |v| (c.n > 0).then_some(v);
-                s.float_or_absent(&format!("stats[{i}].mean"), held(c.mean));
-                s.float_or_absent(&format!("stats[{i}].var"), held(c.var));
-            }
-            s
+impl From<&Station> for State {
+    fn from(t: &Station) -> State {
+        let mut s = State::default();
+        s.within("primary", State::from(&t.primary));
+        s.count("serial", t.serial);
+        s.within("bank", State::from(&t.bank));
+        for (i, &n) in t.counts.iter().enumerate() {
+            s.count(&format!("left by cause {i}"), n);
         }
+        s.count("accepted", t.accepted);
+        s
+    }
+}
+
+impl From<&SenderTiming> for State {
+    fn from(t: &SenderTiming) -> State {
+        let mut s = State::default();
+        for (i, c) in t.stats.iter().enumerate() {
+            s.count(&format!("stats[{i}].n"), u64::from(c.n));
+            s.float(&format!("stats[{i}].mean"), c.mean);
+            s.float(&format!("stats[{i}].var"), c.var);
+        }
+        s
     }
 }
 
@@ -204,7 +228,7 @@ mod tests {
     fn state(lo: f32, gap: Option<f32>, marks: &[f32]) -> State {
         let mut s = State::default();
         s.float("lo", lo);
-        s.floats("marks", marks.iter().copied());
+        s.floats("marks", marks.len(), marks);
         s.float_or_absent("gap", gap);
         s
     }
@@ -212,8 +236,7 @@ mod tests {
     #[test]
     fn the_first_part_that_differs_is_named() {
         let a = state(20.0, None, &[1.0, 2.0]);
-        assert_eq!(compare("on_mark", &a, &a.clone()), Ok(()));
-        let differs = |b: State| compare("on_mark", &a, &b).expect_err("it differs").rust;
+        let differs = |b: State| unlike("on_mark", &a, &b).rust;
         assert_eq!(
             differs(state(-0.0, None, &[1.0, 2.0])),
             "lo 80000000 (-0e0)"
@@ -227,39 +250,22 @@ mod tests {
             differs(state(20.0, None, &[1.0, 3.0])),
             "marks[1] 40400000 (3e0)"
         );
+        assert_eq!(differs(a.clone()), "zero, or as it was");
     }
 
-    /// A field of the tracker, and one of the bank.
-    #[cfg(manta)]
+    /// A count above its capacity, a flag that is none, and a part of the bank.
     #[test]
-    fn mantas_states() {
-        use crate::manta::timing::{SpeedBankConfig, SpeedTracker, TimingBank};
-        let mut t = SpeedTracker::new();
-        let cfg = SpeedBankConfig {
-            width: 3,
-            switching: true,
-        };
-        let mut b = TimingBank::new(cfg);
-        for i in 0..40 {
-            t.on_mark(if i % 3 == 0 { 150.0 } else { 50.0 });
-            b.on_mark(&t, 50.0, true);
-            b.on_gap(&t, 55.0);
-        }
-        let before = (State::from(&t), State::from(&b));
-        assert_eq!(compare("", &before.0, &State::from(&t)), Ok(()));
-        t.regime += 1;
-        assert_eq!(
-            compare("", &before.0, &State::from(&t))
-                .expect_err("differs")
-                .rust,
-            "regime 1"
-        );
-        b.pending = Some(1);
-        assert_eq!(
-            compare("", &before.1, &State::from(&b))
-                .expect_err("differs")
-                .rust,
-            "pending 1"
-        );
+    fn damaged_forms() {
+        let mut s = Station::default();
+        s.primary.pair.init_len = 13;
+        let fresh = State::from(&Station::default());
+        let said = |s: &Station| unlike("", &State::from(s), &fresh).hullathan;
+        assert_eq!(said(&s), "primary.pair.init, how many 13");
+        s = Station::default();
+        s.bank.has_pending = Bit(2);
+        assert_eq!(said(&s), "bank.pending, whether there is one 2");
+        s = Station::default();
+        s.bank.started = 1;
+        assert_eq!(said(&s), "bank.started 1");
     }
 }

@@ -237,7 +237,10 @@ fn call(r: Run, line: &[u8; 31], letter: u8) -> Run {
         b'G' => heard(letter, r, calls::hullathan_bank_on_gap(b, p, x)),
         b'R' => on_ready(r),
         b'C' => answered(letter, r, calls::hullathan_bank_clear(b)),
-        b'X' => switched(r, calls::hullathan_bank_take_switch(b, p, r.serial)),
+        b'X' => switched(
+            r,
+            calls::hullathan_bank_take_switch_by_value(b, p, r.serial),
+        ),
         b'V' => {
             put_readings(b, replay::first(line) as usize);
             r

@@ -12,7 +12,7 @@ use Rattle.sender.specs.declared.ClassStats.{ClassStats}
 use Rattle.sender.specs.declared.SenderTiming.{SenderTiming}
 use Rattle.sender.specs.Model.{Class, Timing, view, blankClass, blank, statsOf, withStats}
 use Rattle.sender.specs.Steps.{observed, dits}
-use Rattle.sender.specs.Answers.{Answer, done, flag, length, ratio, absent, report, refused, unless, stateRefusal, observeRefusal, meanSaid, Left}
+use Rattle.sender.specs.Answers.{Answer, done, flag, inDits, ratio, absent, report, refused, unless, stateRefusal, observeRefusal, meanSaid, Left}
 use Rattle.exports.specs.declared.of_sender.Named.{Named}
 use Rattle.exports.specs.declared.of_sender.Named.the-variants as N
 use Rattle.exports.specs.declared.of_sender.SenderNumber.{SenderNumber}
@@ -45,7 +45,7 @@ meanAt none t = refused unknown
 abbrev pub code : Answer → ℕ
 code done = 0
 code (flag b) = 0
-code (length x) = 0
+code (inDits x) = 0
 code (ratio x) = 0
 code absent = 0
 code (report d t) = 0
@@ -53,7 +53,7 @@ code (refused n) = n
 
 -- an answer with a number, +0 where there is none
 abbrev pub numbered : Answer → SenderNumber
-numbered (length x) = record { code = 0; has = true; value = x }
+numbered (inDits x) = record { code = 0; has = true; value = x }
 numbered (ratio x) = record { code = 0; has = true; value = x }
 numbered (refused n) = record { code = n; has = false; value = nought }
 numbered absent = record { code = 0; has = false; value = nought }
@@ -67,7 +67,7 @@ flagged (flag b) = record { code = 0; yes = b }
 flagged (refused n) = record { code = n; yes = false }
 flagged done = record { code = 0; yes = false }
 flagged absent = record { code = 0; yes = false }
-flagged (length x) = record { code = 0; yes = false }
+flagged (inDits x) = record { code = 0; yes = false }
 flagged (ratio x) = record { code = 0; yes = false }
 flagged (report d t) = record { code = 0; yes = false }
 
@@ -87,7 +87,7 @@ reportedAs (refused n) = record { code = n; «dit_ms» = nought; classes = blank
 reportedAs done = record { code = 0; «dit_ms» = nought; classes = blank }
 reportedAs absent = record { code = 0; «dit_ms» = nought; classes = blank }
 reportedAs (flag b) = record { code = 0; «dit_ms» = nought; classes = blank }
-reportedAs (length x) = record { code = 0; «dit_ms» = nought; classes = blank }
+reportedAs (inDits x) = record { code = 0; «dit_ms» = nought; classes = blank }
 reportedAs (ratio x) = record { code = 0; «dit_ms» = nought; classes = blank }
 
 -- what `observe`, handed s, leaves in r: what the library's own leaves, the other classes bit for bit; s where no class has the number

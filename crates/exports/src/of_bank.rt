@@ -369,7 +369,7 @@ pub extern "C" fn hullathan_bank_on_mark(
 
 // A switch, where a choice is pending: the challenger and the primary, with its serial, are exchanged.
 #[no_mangle]
-pub extern "C" fn hullathan_bank_take_switch(
+pub extern "C" fn hullathan_bank_take_switch_by_value(
     b: PlainBank,
     primary: SpeedTracker,
     serial: u64,

@@ -194,7 +194,7 @@ pub extern "C" fn hullathan_sender_new() -> SenderTiming
 
 // One duration of a class; the statistics are handed back.
 #[no_mangle]
-pub extern "C" fn hullathan_sender_observe(
+pub extern "C" fn hullathan_sender_observe_by_value(
     t: SenderTiming,
     class: u8,
     dur_ms: f32,
@@ -255,7 +255,7 @@ pub extern "C" fn hullathan_sender_word_dits(t: SenderTiming) -> SenderNumber
 
 // Whether a closed word gap is a pause.
 #[no_mangle]
-pub extern "C" fn hullathan_sender_is_pause(t: SenderTiming, dits: f32) -> SenderFlag
+pub extern "C" fn hullathan_sender_is_pause_by_value(t: SenderTiming, dits: f32) -> SenderFlag
     ensures { λ r. ⌜ r ≡ flagged (unless (stateRefusal (view t)) (pauseSaid dits (view t))) ⌝ }
 {
     flag(t.is_pause(Dits(dits)))

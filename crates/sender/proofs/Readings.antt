@@ -31,7 +31,7 @@ use Rattle.sender.specs.Constants.{nominalRatio, wordMin, wordMax, pause
 use Rattle.sender.specs.Model.{Class, Timing, viewClass}
 use Rattle.sender.specs.Sound.{classSound, sound}
 use Rattle.sender.specs.Steps.{enough, ratio, boundary, wordDits, charGapOr, pauses}
-use Rattle.sender.specs.Answers.{length, unless, stateRefusal, optional, wordSaid}
+use Rattle.sender.specs.Answers.{inDits, unless, stateRefusal, optional, wordSaid}
 use Rattle.sender.proofs.Views.{some-at, sound-at}
 use Rattle.sender.proofs.Samples.{mean-in}
 
@@ -140,18 +140,18 @@ word-of c w h k n =
     ap (λ (o : Option Class). wordDits o (viewClass w)) e ∙ word-is _ (viewClass w) (subst (λ (o : Option Class). T (classSound o)) e h) k
 
 -- ---- whatever is said of a word boundary lies from 3 to 12
-said-in : (o w : Option Class) (x : Float) → T (classSound o) → T (classSound w) → optional length (wordDits o w) ≡ length x → In wordMin wordMax x
+said-in : (o w : Option Class) (x : Float) → T (classSound o) → T (classSound w) → optional inDits (wordDits o w) ≡ inDits x → In wordMin wordMax x
 unfolding wordDits
 said-in none w x h k e = let z : _≡_ {A = ℕ} 0 1 = cc in absurd (lt-irrefl 0 (subst (λ (n : ℕ). 0 < n) (sym z) (zero-lt-suc 0)))
 said-in (some c) w x h k e =
-    let d : length (clamp wordMin wordMax (boundary (c .mean) w)) ≡ length x = sym (ap (optional length) (word-is c w h k)) ∙ e in
+    let d : inDits (clamp wordMin wordMax (boundary (c .mean) w)) ≡ inDits x = sym (ap (optional inDits) (word-is c w h k)) ∙ e in
     let q : clamp wordMin wordMax (boundary (c .mean) w) ≡ x = cc in
     subst (In wordMin wordMax) q (boundary-in (c .mean) w (mean-in c h) k)
 
-pub word-said-in : (t : Timing) (x : Float) → unless (stateRefusal t) (wordSaid t) ≡ length x → In wordMin wordMax x
+pub word-said-in : (t : Timing) (x : Float) → unless (stateRefusal t) (wordSaid t) ≡ inDits x → In wordMin wordMax x
 word-said-in t x e = go (sound t) (λ h. h) e
   where
-    go : (b : Bool) → (T b → T (sound t)) → unless (cond b 0 1) (wordSaid t) ≡ length x → In wordMin wordMax x
+    go : (b : Bool) → (T b → T (sound t)) → unless (cond b 0 1) (wordSaid t) ≡ inDits x → In wordMin wordMax x
     go true h e = said-in (t .charGap) (t .wordGap) x (sound-at CharGap t (h tt)) (sound-at WordGap t (h tt)) e
     go false h e = let z : _≡_ {A = ℕ} 0 1 = cc in absurd (lt-irrefl 0 (subst (λ (n : ℕ). 0 < n) (sym z) (zero-lt-suc 0)))
 

@@ -32,12 +32,12 @@ refusal-is t dur dit a b n p q r =
 pub record Unrefused (t : Timing) (dur dit : Float) : Type 0 where
   pub state : T (sound t)
   pub duration : In durationMin durationMax dur
-  pub length : In ditMin ditMax dit
+  pub ofDit : In ditMin ditMax dit
 
 pub unrefused : (t : Timing) (dur dit : Float) → observeRefusal t dur dit ≡ 0 → Unrefused t dur dit
 unrefused t dur dit e =
     let w = go (sound t) (durationRefusal dur) (within ditMin ditMax dit) e in
-    record { state = w .0; duration = unrefused-in dur (w .1); length = within-in ditMin ditMax dit (w .2) }
+    record { state = w .0; duration = unrefused-in dur (w .1); ofDit = within-in ditMin ditMax dit (w .2) }
   where
     go : (a : Bool) (n : ℕ) (b : Bool) → _≡_ {A = ℕ} (firstOf (cond a 0 1) (firstOf n (cond b 0 9))) 0 → T a × (n ≡ 0) × T b
     go true zero true e = (tt, refl, tt)

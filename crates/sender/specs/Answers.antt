@@ -28,7 +28,7 @@ use Rattle.sender.specs.Steps as S
 pub data Answer : Type 0 where
   done : Answer
   flag : Bool → Answer
-  length : Float → Answer
+  inDits : Float → Answer
   ratio : Float → Answer
   absent : Answer
   report : Float → Timing → Answer
@@ -41,7 +41,7 @@ ofTold Tell.Done = done
 ofTold (Tell.Refused n) = refused n
 
 abbrev pub ofLength : Length → Answer
-ofLength (Len.Is x) = length (x .0)
+ofLength (Len.Is x) = inDits (x .0)
 ofLength Len.Absent = absent
 ofLength (Len.Refused n) = refused n
 
@@ -90,13 +90,13 @@ optional f none = absent
 optional f (some x) = f x
 
 abbrev pub meanSaid : TimingClass → Timing → Answer
-meanSaid k t = optional length (S.meanOf (at k t))
+meanSaid k t = optional inDits (S.meanOf (at k t))
 
 abbrev pub ratioSaid : Timing → Answer
 ratioSaid t = optional ratio (S.ratio (t .dot) (t .dash))
 
 abbrev pub wordSaid : Timing → Answer
-wordSaid t = optional length (S.wordDits (t .charGap) (t .wordGap))
+wordSaid t = optional inDits (S.wordDits (t .charGap) (t .wordGap))
 
 abbrev pub pauseSaid : Float → Timing → Answer
 pauseSaid x t = flag (S.pauses x t)

@@ -7,7 +7,7 @@ ghost use Rattle.ranges.specs.Interval.{In};
 ghost use Rattle.sender.specs.Constants.{wordMin, wordMax};
 ghost use Rattle.sender.specs.Model.{number, view, blank, statsOf, withStats};
 ghost use Rattle.sender.specs.Steps.{observed, dits};
-ghost use Rattle.sender.specs.Answers.{ofTold, ofLength, ofRatio, ofYes, ofReport, unless, done, length, stateRefusal, observeRefusal, Left, meanSaid, ratioSaid, wordSaid, pauseSaid, reported};
+ghost use Rattle.sender.specs.Answers.{ofTold, ofLength, ofRatio, ofYes, ofReport, unless, done, inDits, stateRefusal, observeRefusal, Left, meanSaid, ratioSaid, wordSaid, pauseSaid, reported};
 
 pub mod door;
 pub mod inner;
@@ -182,7 +182,7 @@ impl SenderTiming {
     // The sender's boundary between characters and words: where there is one, it lies from 3 to 12.
     pub fn sender_word_dits(self) -> Length
         ensures { λ r. ⌜ ofLength r ≡ unless (stateRefusal (view self)) (wordSaid (view self)) ⌝ }
-        ensures { λ r. ⌜ ((x : Float) → ofLength r ≡ length x → In wordMin wordMax x) ⌝ }
+        ensures { λ r. ⌜ ((x : Float) → ofLength r ≡ inDits x → In wordMin wordMax x) ⌝ }
     {
         if is_sound(self) {
             return inner::sender_word_dits(self);

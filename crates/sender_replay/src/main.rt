@@ -56,7 +56,7 @@ fn put_number(letter: u8, n: calls::SenderNumber) {
 }
 
 fn put_pause(t: SenderTiming, dits: f32) {
-    let r = calls::hullathan_sender_is_pause(t, dits);
+    let r = calls::hullathan_sender_is_pause_by_value(t, dits);
     put_answer(b'P', r.code, r.yes, 0.0);
 }
 
@@ -85,7 +85,7 @@ fn run(t: SenderTiming, line: &[u8; 31]) -> SenderTiming {
     let y = float(replay::second(line));
     match letter {
         b'O' => {
-            let r = calls::hullathan_sender_observe(t, class, x, y);
+            let r = calls::hullathan_sender_observe_by_value(t, class, x, y);
             put_answer(letter, r.code, false, 0.0);
             r.timing
         }

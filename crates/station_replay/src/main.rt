@@ -4,6 +4,7 @@
 // digit: switching; the width), E an event (the digit: live; its kind, its number), A shows the rivals and the primary whole.
 use hullathan::call::called;
 use hullathan::start::started;
+use plain::PlainBank;
 use plain::PlainDeparture;
 use plain::PlainHypothesis;
 use plain_station::PlainStation;
@@ -24,7 +25,20 @@ fn put_long(n: u64) {
     put_word((n % 4294967296) as u32);
 }
 
-// The books and the primary's centroids, after each call.
+// What of a bank changes most.
+fn put_bank(b: PlainBank) {
+    put_float(b.primary_score);
+    put_float(b.primary_gap_score);
+    put_long(b.marks_seen);
+    put_long(b.gaps_seen);
+    put_code(b.has_pending);
+    put_count(b.pending);
+    put_count(b.streak_len);
+    put_count(b.streak_gaps_len);
+    put_count(b.log_len);
+}
+
+// The books, the primary's centroids and the bank's counts, after each call.
 fn put_books(s: PlainStation) {
     let p = s.primary;
     let q = p.pair;
@@ -40,6 +54,7 @@ fn put_books(s: PlainStation) {
     put_long(s.replaced);
     put_long(s.cleared);
     put_long(s.accepted);
+    put_bank(b);
     put_byte(b'\n');
 }
 
@@ -65,8 +80,13 @@ fn put_rival(h: PlainHypothesis) {
     put_long(h.serial);
     put_float(h.score);
     put_float(h.gap_score);
+    put_word(h.lead_marks);
     put_word(h.age_marks);
     put_code(h.origin);
+    put_word(h.retain_marks);
+    put_code(h.reported);
+    put_float(h.ln_lo);
+    put_float(h.ln_hi);
     let t = h.tracker;
     put_tracker(tracker_of(t));
 }
@@ -107,6 +127,10 @@ fn call(s: PlainStation, kind: u32, value: f32, live: bool) -> PlainStation {
     put_byte(b'E');
     put_flag(a.code >= 128);
     put_code(a.code % 128);
+    put_float(a.dit_ms);
+    put_float(a.dah_ms);
+    put_long(a.serial);
+    put_count(a.challengers);
     let left = a.left;
     put_left(left, a.left_len);
     let next = c.station;

@@ -33,7 +33,7 @@ module _ (k : Settings) (p : Pair) (d : Float) (u c : Tracker) (x : RingEntry) (
 pub rung-drivable : (u c g : Tracker) (x : RingEntry) → c ≡ bound standard u → g ≡ rung c x → Drivable u → T (entrySound standard x) → Drivable g
 rung-drivable u c g x C P v t =
     subst Drivable (sym (P ∙ ap (λ (z : Tracker). rung z x) C))
-    (record { ring = pushed-all (entrySound standard) 12 (u .ring) x (v .ring) t; recent = v .recent; some = v .some })
+    (record { ring = pushed-all (entrySound standard) 12 (u .ring) x (v .ring) t; recent = v .recent; held = v .held })
 
 -- ---- a tracker that was not
 pub opens : (k : Settings) (u w r : Tracker) → u .pair .ready ≡ true → w ≡ bound k (withUncorroborated u (eqb (u .pair .loN) 1)) → r ≡ spoken k w → r ≡ opened k u
@@ -65,7 +65,7 @@ module _ (k : Settings) (m : Tracker) (d : Float) (a : Tracker) (A : a ≡ withR
 pub heard-drivable : (m a : Tracker) (q : Pair) (d : Float) → a ≡ withRecent m (pushed 5 (m .recent) d) → Fine standard m → T (duration d) → Drivable (withPair a q)
 heard-drivable m a q d A f t =
     subst (λ (z : Tracker). Drivable (withPair z q)) (sym A)
-    (record { ring = f .ring; recent = pushed-all duration 5 (m .recent) d (f .recent) t; some = pushed-some 5 (m .recent) d (omega arith) })
+    (record { ring = f .ring; recent = pushed-all duration 5 (m .recent) d (f .recent) t; held = pushed-some 5 (m .recent) d (omega arith) })
 
 -- ---- a mark of a ready tracker, as the code takes it: recent marks l, pair q, entry x, and whether the dit still rests on a lone mark
 pub record Heard (k : Settings) (m : Tracker) (d : Float) (l : List Float) (q₀ q : Pair) (x : RingEntry) (b : Bool) : Type 0 where

@@ -5,7 +5,7 @@ use mathlib.Core.Option.{Option, none, some}
 use Prim.Native.Nat.{_≤_}
 use lib.ListN.{length, replicate}
 use lib.Dec.{T}
-use lib.Ieee.{Float, binary32, ofBits}
+use Rattle.ranges.specs.Limits.{nought}
 use Rattle.ranges.specs.Settings.{standard}
 use Rattle.ring.specs.declared.RingEntry.{RingEntry}
 use Rattle.tracker.specs.declared.SpeedTracker.{SpeedTracker}
@@ -28,7 +28,7 @@ pub record Full (t : SpeedTracker) : Type 0 where
 pub record Drivable (m : Tracker) : Type 0 where
   pub ring : T (ringSound standard (m .ring))
   pub recent : T (allDurations (m .recent))
-  pub some : 1 ≤ length (m .recent)
+  pub held : 1 ≤ length (m .recent)
 
 pub record Checkable (t : SpeedTracker) : Type 0 where
   pub counted : Counted t
@@ -40,25 +40,22 @@ other true t = some (view t)
 other false t = none
 
 -- a fresh tracker, place by place
-abbrev pub zero : Float
-zero = ofBits binary32 0
-
 abbrev pub blankEntry : RingEntry
-blankEntry = record { «dur_ms» = zero; «assigned_dit» = false; «pre_lo» = zero; «pre_hi» = zero }
+blankEntry = record { «dur_ms» = nought; «assigned_dit» = false; «pre_lo» = nought; «pre_hi» = nought }
 
 abbrev pub blank : SpeedTracker
 blank = record {
-  pair = record { lo = zero; hi = zero; init = replicate 12 zero; «init_len» = 0; ready = false; confirmed = false; «placeholder_is_lo» = false; «lo_n» = 0 };
+  pair = record { lo = nought; hi = nought; init = replicate 12 nought; «init_len» = 0; ready = false; confirmed = false; «placeholder_is_lo» = false; «lo_n» = 0 };
   ring = replicate 12 blankEntry;
   «ring_len» = 0;
   «has_wpm» = false;
-  «wpm_ema» = zero;
-  recent = replicate 5 zero;
+  «wpm_ema» = nought;
+  recent = replicate 5 nought;
   «recent_len» = 0;
   «has_egap» = false;
-  «mu_egap_ms» = zero;
+  «mu_egap_ms» = nought;
   «has_hint» = false;
-  «ratio_hint» = zero;
+  «ratio_hint» = nought;
   regime = 0;
   «badlock_recovered» = false;
   «lo_uncorroborated» = false;

@@ -1,11 +1,13 @@
 //! Nanoseconds for one event of a station of width 8 that switches: manta's Rust, the library's calls one by one and in batches, and the two
 //! hosts' own programs on the same events, where they are built.
 
-use super::{batch_watch, events, heard, medians_of, one_sender, rust_watch, station_watch};
+use super::turns::{Spread, TURNS};
+use super::{batch_watch, events, heard, one_sender, rust_watch, station_watch, Loop};
 use crate::hullathan::station::Event;
 use std::fmt::Write;
-use std::path::Path;
+use std::path::{Path, PathBuf};
 use std::process::Command;
+use std::time::Instant;
 
 /// The hosts' programs, below the folder of what is built.
 const PROGRAMS: [&str; 2] = ["hosts-c/bench", "hosts-rust/release/examples/bench"];
@@ -28,8 +30,35 @@ pub fn list(count: usize) -> String {
     text
 }
 
-/// What a host's program says of the list: a line for each way, `c event 1234.5`.
-fn measured(program: &Path, list: &Path) -> Result<Vec<(String, f64)>, String> {
+/// A way to hear the list: its name, and nanoseconds for one event.
+enum Way<'a> {
+    Own(&'static str, Loop<'a>),
+    /// A host's program: a line for each of its own ways, `c event 1234.5`.
+    Program(PathBuf),
+}
+
+/// How often a loop of this program runs in one turn.
+const ROUNDS: usize = 12;
+
+impl Way<'_> {
+    /// What one turn takes, by name.
+    fn turn(&mut self, file: &Path, events: usize) -> Result<Vec<(String, f64)>, String> {
+        match self {
+            Way::Own(name, run) => {
+                let start = Instant::now();
+                for _ in 0..ROUNDS {
+                    run();
+                }
+                let ns = start.elapsed().as_nanos() as f64 / (ROUNDS * events) as f64;
+                Ok(vec![(name.to_string(), ns)])
+            }
+            Way::Program(program) => said(program, file),
+        }
+    }
+}
+
+/// What a host's program says of the list.
+fn said(program: &Path, list: &Path) -> Result<Vec<(String, f64)>, String> {
     let name = program.display();
     let done = Command::new(program).arg(list).output();
     let done = done.map_err(|e| format!("{name}: {e}"))?;
@@ -45,32 +74,50 @@ fn measured(program: &Path, list: &Path) -> Result<Vec<(String, f64)>, String> {
     lines.ok_or_else(|| format!("{name} says {text:?}"))
 }
 
-/// A table in markdown.
-pub fn report() -> Result<bool, String> {
-    let keyed = keyed();
-    let loops = vec![
-        rust_watch(&keyed, 8),
-        station_watch(&keyed, 8),
-        batch_watch(&keyed, 8),
+/// The turns of every way, each with its name; manta's Rust first.
+fn measured(keyed: &[Event], file: &Path) -> Result<Vec<(String, Vec<f64>)>, String> {
+    let mut ways = vec![
+        Way::Own("manta's Rust", rust_watch(keyed, 8)),
+        Way::Own("oracle event", station_watch(keyed, 8)),
+        Way::Own("oracle batch", batch_watch(keyed, 8)),
     ];
-    // a loop's time is for one mark, with its gap and its switch call
-    let own = medians_of(loops, 3).into_iter().map(|t| t / 3.0);
-    let names = ["manta's Rust", "oracle event", "oracle batch"];
-    let mut all: Vec<(String, f64)> = names.map(String::from).into_iter().zip(own).collect();
     let built = Path::new(env!("CARGO_MANIFEST_DIR")).join("../target");
-    let file = std::env::temp_dir().join(format!("oracle-events-{}", std::process::id()));
-    std::fs::write(&file, list(keyed.len())).map_err(|e| format!("{}: {e}", file.display()))?;
     for name in PROGRAMS {
         let program = built.join(name);
         match program.is_file() {
-            true => all.extend(measured(&program, &file)?),
+            true => ways.push(Way::Program(program)),
             false => eprintln!("target/{name} is not built"),
         }
     }
+    let mut all: Vec<(String, Vec<f64>)> = Vec::new();
+    for _ in 0..TURNS {
+        for way in &mut ways {
+            for (name, ns) in way.turn(file, keyed.len())? {
+                match all.iter_mut().find(|a| a.0 == name) {
+                    Some(a) => a.1.push(ns),
+                    None => all.push((name, vec![ns])),
+                }
+            }
+        }
+    }
+    Ok(all)
+}
+
+/// A table in markdown.
+pub fn report() -> Result<bool, String> {
+    let keyed = keyed();
+    let file = std::env::temp_dir().join(format!("oracle-events-{}", std::process::id()));
+    std::fs::write(&file, list(keyed.len())).map_err(|e| format!("{}: {e}", file.display()))?;
+    let all = measured(&keyed, &file);
     let _ = std::fs::remove_file(&file);
+    let all = all?;
     println!("| one event, width 8 | ns | over the Rust |\n|---|---|---|");
-    for (name, t) in &all {
-        println!("| {name} | {t:.0} | {:.2} |", t / all[0].1);
+    for (name, taken) in &all {
+        let (ns, ratio) = (
+            Spread::of(taken.clone()),
+            Spread::of_both(taken, &all[0].1, |a, b| a / b),
+        );
+        println!("| {name} | {ns:.0} | {ratio} |");
     }
     Ok(true)
 }

@@ -166,7 +166,11 @@ mod c {
             dur_ms: f32,
             live: bool,
         ) -> Answered;
-        pub fn hullathan_bank_take_switch(b: Bank, p: SpeedTracker, serial: u64) -> Switched;
+        pub fn hullathan_bank_take_switch_by_value(
+            b: Bank,
+            p: SpeedTracker,
+            serial: u64,
+        ) -> Switched;
         pub fn hullathan_bank_take_switch_lent(b: Bank, p: *mut SpeedTracker, serial: u64) -> Lent;
         pub fn hullathan_inner_bank_on_gap(b: Bank, p: SpeedTracker, dur_ms: f32) -> Bank;
         pub fn hullathan_inner_bank_on_mark(
@@ -224,7 +228,7 @@ pub fn on_mark(b: Bank, p: SpeedTracker, dur_ms: f32, live: bool) -> Answered {
 }
 
 pub fn take_switch(b: Bank, p: SpeedTracker, serial: u64) -> Switched {
-    unsafe { c::hullathan_bank_take_switch(b, p, serial) }
+    unsafe { c::hullathan_bank_take_switch_by_value(b, p, serial) }
 }
 
 /// The switch call with the primary lent.

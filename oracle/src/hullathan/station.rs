@@ -84,44 +84,18 @@ pub struct Reading {
     pub rivals: [Rival; 8],
 }
 
-// Two of each are the same where every number is, bit for bit.
-
-impl PartialEq for Answer {
-    fn eq(&self, b: &Answer) -> bool {
-        let floats = |a: &Answer| [a.dit_ms, a.dah_ms].map(f32::to_bits);
-        let counts = |a: &Answer| (a.code, a.serial, a.challengers, a.left_len);
-        floats(self) == floats(b) && counts(self) == counts(b) && self.left == b.left
-    }
+// Two of each are the same where every byte of every field is.
+macro_rules! same_by_bytes {
+    ($($form:ty),*) => {
+        $(impl PartialEq for $form {
+            fn eq(&self, other: &$form) -> bool {
+                crate::forms::identical(self, other)
+            }
+        })*
+    };
 }
 
-impl PartialEq for Event {
-    fn eq(&self, b: &Event) -> bool {
-        let all = |e: &Event| (e.kind, e.live, e.value.to_bits());
-        all(self) == all(b)
-    }
-}
-
-impl PartialEq for Rival {
-    fn eq(&self, b: &Rival) -> bool {
-        let floats = |h: &Rival| [h.dit_ms, h.dah_ms, h.score, h.gap_score].map(f32::to_bits);
-        self.serial == b.serial && floats(self) == floats(b)
-    }
-}
-
-impl PartialEq for Reading {
-    fn eq(&self, b: &Reading) -> bool {
-        let flags = |r: &Reading| (r.code, r.ready, r.has_wpm, r.switching);
-        let times = |r: &Reading| [r.dit_ms, r.dah_ms, r.dit_estimate_ms, r.wpm].map(f32::to_bits);
-        let scores = |r: &Reading| [r.score, r.gap_score].map(f32::to_bits);
-        let sizes = |r: &Reading| (r.width, r.challengers, r.rivals);
-        let totals = |r: &Reading| [r.serial, r.accepted, r.marks, r.gaps, r.started];
-        flags(self) == flags(b)
-            && times(self) == times(b)
-            && scores(self) == scores(b)
-            && sizes(self) == sizes(b)
-            && (totals(self), self.counts) == (totals(b), b.counts)
-    }
-}
+same_by_bytes!(Answer, Event, Rival, Reading);
 
 mod c {
     use super::*;

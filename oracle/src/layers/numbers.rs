@@ -228,18 +228,19 @@ fn check_kind(v: f32) -> Result<(), Difference> {
     )
 }
 
-/// `clamp`, which Rust has only where the limits are in order.
-fn check_clamp(v: f32, a: f32, b: f32) -> Result<(), Difference> {
+/// `clamp`, which Rust has only where the limits are in order. How many results were compared.
+fn check_clamp(v: f32, a: f32, b: f32) -> Result<u64, Difference> {
     let (lo, hi) = if a <= b { (a, b) } else { (b, a) };
     if lo.is_nan() || hi.is_nan() {
-        return Ok(());
+        return Ok(0);
     }
     compare(
         f32::from_bits(!v.to_bits()),
         Ok(v.clamp(lo, hi)),
         |out| ours::clamp32(v, lo, hi, out),
         || format!("clamp32 of {} to {}, {}", v.show(), lo.show(), hi.show()),
-    )
+    )?;
+    Ok(1)
 }
 
 /// `max`. Which of two zeros it gives is not said in Rust; the library gives the first.
@@ -254,10 +255,11 @@ fn check_max(a: f32, b: f32) -> Result<(), Difference> {
 }
 
 /// `total_cmp`. A NaN has no sign and no digits in the library and is above all: compared where Rust puts it there too.
-fn check_total_less(a: f32, b: f32) -> Result<(), Difference> {
+/// How many results were compared.
+fn check_total_less(a: f32, b: f32) -> Result<u64, Difference> {
     let below = |v: f32| v.is_nan() && v.is_sign_negative();
     if below(a) || below(b) || a.is_nan() && b.is_nan() {
-        return Ok(());
+        return Ok(0);
     }
     let rust = a.total_cmp(&b).is_lt();
     compare(
@@ -265,7 +267,8 @@ fn check_total_less(a: f32, b: f32) -> Result<(), Difference> {
         Ok(rust),
         |out| ours::total_less32(a, b, out),
         || format!("total_less32 of {} and {}", a.show(), b.show()),
-    )
+    )?;
+    Ok(1)
 }
 
 /// Two more floats beside one: it again, its negative, what lies next to it or to its root, or others.
@@ -318,10 +321,9 @@ impl Layer for Numbers {
         check_narrow(case.double)?;
         check_abs(case.single, case.double)?;
         check_kind(v)?;
-        check_clamp(v, a, b)?;
         check_max(v, a)?;
-        check_total_less(v, a)?;
-        Ok(14)
+        let most = check_clamp(v, a, b)? + check_total_less(v, a)?;
+        Ok(12 + most)
     }
 
     fn smaller(case: &Input) -> Vec<Input> {
@@ -347,6 +349,39 @@ impl Layer for Numbers {
 #[cfg(test)]
 mod tests {
     use super::*;
+
+    /// Each way in which an answer can be wrong is seen: its bits, its code, a refusal that is none or another, and one
+    /// that writes.
+    #[test]
+    fn wrong_answers() {
+        let with = |rust: Result<f32, u8>, code: u8, wrote: Option<f32>| {
+            let call = |out: &mut f32| {
+                *out = wrote.unwrap_or(*out);
+                code
+            };
+            compare(7.0, rust, call, String::new).is_ok()
+        };
+        assert!(with(Ok(2.0), 0, Some(2.0)) && with(Err(11), 11, None));
+        assert!(with(Ok(f32::NAN), 0, Some(-f32::NAN)));
+        for byte in 0..4 {
+            let other = f32::from_bits(2f32.to_bits() ^ 1 << (8 * byte));
+            assert!(!with(Ok(2.0), 0, Some(other)));
+        }
+        assert!(!with(Ok(0.0), 0, Some(-0.0)) && !with(Ok(f32::NAN), 0, Some(2.0)));
+        assert!(!with(Ok(2.0), 0, None) && !with(Ok(2.0), 11, Some(2.0)));
+        assert!(!with(Err(11), 0, None) && !with(Err(11), 10, None));
+        assert!(!with(Err(11), 11, Some(2.0)));
+    }
+
+    /// What is not compared is not counted.
+    #[test]
+    fn counted() {
+        let nan = f32::NAN;
+        assert_eq!(check_clamp(1.0, nan, 2.0), Ok(0));
+        assert_eq!(check_clamp(nan, 1.0, 2.0), Ok(1));
+        assert_eq!(check_total_less(1.0, -nan), Ok(0));
+        assert_eq!(check_total_less(1.0, nan), Ok(1));
+    }
 
     /// The fixed cases have what document 01 names.
     #[test]

@@ -1,10 +1,11 @@
 //! A sender's statistics, beside manta's `SenderTiming` with the refusals of document 01 before it.
 
-use crate::compare::{Difference, Layer};
+use crate::compare::{Difference, Follow, Layer};
+use crate::forms;
 use crate::hullathan::sender as ours;
 use crate::hullathan::sender::{ClassStats, SenderTiming as Plain};
 use crate::layers::tracker::cases::about;
-use crate::layers::tracker::{same_float, show};
+use crate::layers::tracker::show;
 use crate::manta::timing::{ClassEstimate, SenderTiming, TimingClass};
 use crate::random::Random;
 use crate::refusals;
@@ -138,25 +139,15 @@ pub struct Answer {
 #[derive(Clone, Copy)]
 pub enum Told {
     Nothing,
-    Number(Option<f32>),
+    /// Whether there is one, and the number, 0 where there is none.
+    Number(bool, f32),
     Flag(bool),
     Report(f32, Plain),
 }
 
-/// Where nothing was observed, the other numbers are no part of a class.
-fn same_class(a: &ClassStats, b: &ClassStats) -> bool {
-    a.n == b.n && (a.n == 0 || same_float(a.mean, b.mean) && same_float(a.var, b.var))
-}
-
-pub fn same_timing(a: &Plain, b: &Plain) -> bool {
-    a.stats.iter().zip(&b.stats).all(|(a, b)| same_class(a, b))
-}
-
-fn identical(a: &Plain, b: &Plain) -> bool {
-    let class = |(a, b): (&ClassStats, &ClassStats)| {
-        a.n == b.n && same_float(a.mean, b.mean) && same_float(a.var, b.var)
-    };
-    a.stats.iter().zip(&b.stats).all(class)
+/// A number by its bits.
+fn same_float(a: f32, b: f32) -> bool {
+    a.to_bits() == b.to_bits()
 }
 
 impl Answer {
@@ -164,10 +155,11 @@ impl Answer {
         self.code == other.code
             && match (self.told, other.told) {
                 (Told::Nothing, Told::Nothing) => true,
-                (Told::Number(None), Told::Number(None)) => true,
-                (Told::Number(Some(a)), Told::Number(Some(b))) => same_float(a, b),
+                (Told::Number(a, x), Told::Number(b, y)) => a == b && same_float(x, y),
                 (Told::Flag(a), Told::Flag(b)) => a == b,
-                (Told::Report(a, s), Told::Report(b, t)) => same_float(a, b) && same_timing(&s, &t),
+                (Told::Report(a, s), Told::Report(b, t)) => {
+                    same_float(a, b) && forms::identical(&s, &t)
+                }
                 _ => false,
             }
     }
@@ -175,8 +167,7 @@ impl Answer {
     fn show(&self) -> String {
         let told = match self.told {
             Told::Nothing => String::new(),
-            Told::Number(None) => ", none".into(),
-            Told::Number(Some(x)) => format!(", {}", show(x.to_bits())),
+            Told::Number(has, x) => format!(", {has} {}", show(x.to_bits())),
             Told::Flag(b) => format!(", {b}"),
             Told::Report(dit, t) => format!(", dit {}, {t:?}", show(dit.to_bits())),
         };
@@ -184,15 +175,7 @@ impl Answer {
     }
 }
 
-/// The same statistics in manta's struct.
-pub fn manta(t: &Plain) -> SenderTiming {
-    let mut m = SenderTiming::new();
-    for (s, c) in m.stats.iter_mut().zip(&t.stats) {
-        (s.mean, s.var, s.n) = (c.mean, c.var, c.n);
-    }
-    m
-}
-
+/// manta's statistics in the library's form.
 pub fn plain(t: &SenderTiming) -> Plain {
     Plain {
         stats: t.stats.map(|s| ClassStats {
@@ -218,7 +201,12 @@ fn unsound(t: &SenderTiming) -> Result<(), u8> {
     Ok(())
 }
 
+fn number(x: Option<f32>) -> Told {
+    Told::Number(x.is_some(), x.unwrap_or(0.0))
+}
+
 /// manta's Rust, with document 01's refusals before it: what the library is compared with.
+#[derive(Clone)]
 pub struct Rust(pub SenderTiming);
 
 impl Rust {
@@ -228,7 +216,7 @@ impl Rust {
             Err(code) => Answer {
                 code,
                 told: match call {
-                    Call::Mean { .. } | Call::Ratio | Call::Word => Told::Number(None),
+                    Call::Mean { .. } | Call::Ratio | Call::Word => number(None),
                     Call::Pause { .. } => Told::Flag(false),
                     Call::Estimates { .. } => Told::Report(0.0, Plain::default()),
                     _ => Told::Nothing,
@@ -252,15 +240,15 @@ impl Rust {
             Call::Mean { class } => {
                 let class = class_of(class).ok_or(255)?;
                 unsound(t)?;
-                Told::Number(t.mean_dits(class))
+                number(t.mean_dits(class))
             }
             Call::Ratio => {
                 unsound(t)?;
-                Told::Number(t.dash_dot_ratio())
+                number(t.dash_dot_ratio())
             }
             Call::Word => {
                 unsound(t)?;
-                Told::Number(t.sender_word_dits())
+                number(t.sender_word_dits())
             }
             Call::Pause { dits } => {
                 unsound(t)?;
@@ -300,23 +288,29 @@ impl Rust {
 /// The library's answer, and the statistics that it hands back.
 fn library(t: Plain, call: Call) -> (Answer, Plain) {
     let float = f32::from_bits;
-    let number = |r: ours::Number| (r.code, Told::Number(r.has.then_some(r.value)));
+    // no field of an answer is left out
+    let number = |ours::Number { code, has, value }| (code, Told::Number(has, value));
     let (mut next, mut code, mut told) = (t, 0, Told::Nothing);
     match call {
         Call::Observe { class, dur, dit } => {
-            let r = ours::observe(t, class, float(dur), float(dit));
-            (code, next) = (r.code, r.timing);
+            ours::Observed { code, timing: next } = ours::observe(t, class, float(dur), float(dit));
         }
         Call::Mean { class } => (code, told) = number(ours::mean_dits(t, class)),
         Call::Ratio => (code, told) = number(ours::dash_dot_ratio(t)),
         Call::Word => (code, told) = number(ours::word_dits(t)),
         Call::Pause { dits } => {
-            let r = ours::is_pause(t, float(dits));
-            (code, told) = (r.code, Told::Flag(r.yes));
+            let yes;
+            ours::Flag { code, yes } = ours::is_pause(t, float(dits));
+            told = Told::Flag(yes);
         }
         Call::Estimates { dit } => {
-            let r = ours::estimates(t, float(dit));
-            (code, told) = (r.code, Told::Report(r.dit_ms, r.classes));
+            let (dit_ms, classes);
+            ours::Report {
+                code,
+                dit_ms,
+                classes,
+            } = ours::estimates(t, float(dit));
+            told = Told::Report(dit_ms, classes);
         }
         Call::Set {
             class,
@@ -335,10 +329,17 @@ fn library(t: Plain, call: Call) -> (Answer, Plain) {
     (Answer { code, told }, next)
 }
 
-/// One call to both sides: the answers, and the whole statistics afterwards; after a refusal each bit of what was handed in.
+/// One call to both sides: the answers, and the whole statistics afterwards, which after a refusal are what was handed
+/// in.
 fn step(t: &mut Plain, rust: &mut Rust, call: Call) -> Result<(), Difference> {
-    let before = *t;
-    let (ours, next) = library(before, call);
+    let back = library(*t, call);
+    *t = hold(rust, call, back)?;
+    Ok(())
+}
+
+/// What the library answers to a call and hands back, held to the Rust's: every number, also those of a class that was
+/// never observed.
+fn hold(rust: &mut Rust, call: Call, (ours, next): (Answer, Plain)) -> Result<Plain, Difference> {
     let theirs = rust.call(call);
     if !ours.same(&theirs) {
         return Err(Difference {
@@ -347,22 +348,12 @@ fn step(t: &mut Plain, rust: &mut Rust, call: Call) -> Result<(), Difference> {
             rust: theirs.show(),
         });
     }
-    if ours.code != 0 && !identical(&before, &next) {
-        return Err(Difference {
-            call: format!("{call:?}, refused: the statistics are to be handed back as they were"),
-            hullathan: format!("{next:?}"),
-            rust: format!("{before:?}"),
-        });
+    let expected = plain(&rust.0);
+    if !forms::identical(&next, &expected) {
+        let (ours, theirs) = (State::from(&next), State::from(&expected));
+        return Err(states::unlike(&format!("{call:?}"), &ours, &theirs));
     }
-    if !same_timing(&next, &plain(&rust.0)) {
-        states::compare(
-            &format!("{call:?}"),
-            &State::from(&manta(&next)),
-            &State::from(&rust.0),
-        )?;
-    }
-    *t = next;
-    Ok(())
+    Ok(next)
 }
 
 /// Counts what the call will reach, from the statistics before it.
@@ -655,6 +646,16 @@ impl Layer for Sender {
     }
 }
 
+impl Follow for Sender {
+    fn follow(case: &Vec<Call>) {
+        let mut rust = Rust(SenderTiming::new());
+        for &call in case {
+            count(&rust.0, call);
+            rust.call(call);
+        }
+    }
+}
+
 /// The call with one of its numbers made simpler.
 fn simpler(call: &Call) -> Vec<Call> {
     match *call {
@@ -702,5 +703,94 @@ fn simpler(call: &Call) -> Vec<Call> {
             means.chain(vars).chain(ns).collect()
         }
         _ => Vec::new(),
+    }
+}
+
+#[cfg(test)]
+mod tests {
+    use super::*;
+    use crate::forms::{places, turned};
+
+    fn full() -> Plain {
+        let mut t = Plain::default();
+        for (i, c) in (1..).zip(t.stats.iter_mut()) {
+            (c.mean, c.var, c.n) = (i as f32, 0.5, 3 + i);
+        }
+        t
+    }
+
+    fn rust(t: &Plain) -> Rust {
+        let mut m = SenderTiming::new();
+        for (s, c) in m.stats.iter_mut().zip(&t.stats) {
+            (s.mean, s.var, s.n) = (c.mean, c.var, c.n);
+        }
+        Rust(m)
+    }
+
+    /// What the comparison sees: each byte of the statistics on either side, and each number of an answer.
+    #[test]
+    fn every_byte() {
+        let (t, d) = (full(), 60f32.to_bits());
+        let calls = [
+            Call::Observe {
+                class: 1,
+                dur: d,
+                dit: d,
+            },
+            Call::Observe {
+                class: 5,
+                dur: d,
+                dit: d,
+            },
+            Call::Mean { class: 2 },
+            Call::Ratio,
+            Call::Word,
+            Call::Pause { dits: d },
+            Call::Estimates { dit: d },
+        ];
+        for call in calls {
+            let back = library(t, call);
+            let held = |back| hold(&mut rust(&t), call, back).is_ok();
+            assert!(held(back), "{call:?}");
+            for at in places::<Plain>() {
+                assert!(!held((back.0, turned(&back.1, at))), "{call:?}, byte {at}");
+                let other = hold(&mut rust(&turned(&t, at)), call, back);
+                assert!(other.is_err(), "{call:?}, byte {at} of the Rust's");
+            }
+            let code = back.0.code ^ 1;
+            assert!(!held((Answer { code, ..back.0 }, back.1)));
+            for told in damaged(back.0.told) {
+                assert!(!held((Answer { told, ..back.0 }, back.1)), "{call:?}");
+            }
+        }
+    }
+
+    /// Each number of an answer changed.
+    fn damaged(told: Told) -> Vec<Told> {
+        let next = |x: f32| f32::from_bits(x.to_bits() ^ 1);
+        match told {
+            Told::Nothing => vec![Told::Flag(false)],
+            Told::Number(has, x) => vec![Told::Number(!has, x), Told::Number(has, next(x))],
+            Told::Flag(yes) => vec![Told::Flag(!yes)],
+            Told::Report(dit, t) => {
+                let each = places::<Plain>().into_iter();
+                let other = each.map(|at| Told::Report(dit, turned(&t, at)));
+                other.chain([Told::Report(next(dit), t)]).collect()
+            }
+        }
+    }
+
+    /// A number that is absent is 0, and one of a class that was never observed stays as it was.
+    #[test]
+    fn absent_numbers() {
+        let t = Plain::default();
+        let (answer, next) = library(t, Call::Ratio);
+        let held = |back| hold(&mut rust(&t), Call::Ratio, back).is_ok();
+        assert!(held((answer, next)));
+        let told = Told::Number(false, 1.0);
+        assert!(!held((Answer { told, ..answer }, next)));
+        let mut other = next;
+        other.stats[3].mean = 1.0;
+        assert!(!held((answer, other)));
     }
 }

@@ -6,23 +6,25 @@
 //! clear, X take_switch, V reads (a place), A shows bank and primary whole; m, g, w, f, n call the primary, and I gives its serial;
 //! S, T, s set a part of the bank, of a challenger's tracker, of the primary.
 
+use super::tracker as primary;
 use super::tracker::tracker;
 use super::{count, flag, held, line, number, Files};
 use crate::hullathan::bank::{Bank, Departure, Hypothesis, Record};
-use crate::layers::bank::{random_case, spelled, Banks, Both, Call, Told, PARTS};
-use crate::layers::tracker as primary;
+use crate::layers::bank::{random_case, spelled, Banks, Call, Part, Rust, Told, PARTS};
+use crate::layers::tracker as trackers;
+use crate::log01::Ln01;
 use crate::random::Random;
 
 const STDIN: &str = include_str!("../../../crates/bank_replay/stdin");
 
-fn primary_line(call: &primary::Call) -> String {
+fn primary_line(call: &trackers::Call) -> String {
     match call {
-        primary::Call::Mark(d) => line('m', 0, *d, 0, 0),
-        primary::Call::Gap(d) => line('g', 0, *d, 0, 0),
-        primary::Call::Seed(w) => line('w', 0, *w, 0, 0),
-        primary::Call::Finish => line('f', 0, 0, 0, 0),
-        primary::Call::Set(part, i, v) => line('s', 0, *part as u32, u32::from(*i), *v),
-        primary::Call::Fresh => line('n', 0, 0, 0, 0),
+        trackers::Call::Mark(d) => line('m', 0, *d, 0, 0),
+        trackers::Call::Gap(d) => line('g', 0, *d, 0, 0),
+        trackers::Call::Seed(w) => line('w', 0, *w, 0, 0),
+        trackers::Call::Finish => line('f', 0, 0, 0, 0),
+        trackers::Call::Set(part, i, v) => line('s', 0, *part as u32, u32::from(*i), *v),
+        trackers::Call::Fresh => line('n', 0, 0, 0, 0),
         _ => unreachable!("no list has this call of the primary"),
     }
 }
@@ -55,7 +57,7 @@ fn parse(script: &str) -> Vec<Call> {
     for l in script.lines() {
         let field = |at: usize| u32::from_str_radix(&l[at..at + 8], 16).expect("8 digits");
         let (a, b, c, digit) = (field(4), field(13), field(22), l.as_bytes()[2] - b'0');
-        let part = |a: u32| primary::PARTS[a as usize];
+        let part = |a: u32| trackers::PARTS[a as usize];
         calls.push(match l.as_bytes()[0] {
             b'N' => Call::New(a as usize, digit == 1),
             b'M' => Call::Mark(a, digit == 1),
@@ -69,12 +71,12 @@ fn parse(script: &str) -> Vec<Call> {
             b'X' => Call::Switch,
             b'V' => Call::Read(a as usize),
             b'A' => Call::Show,
-            b'm' => Call::Primary(primary::Call::Mark(a)),
-            b'g' => Call::Primary(primary::Call::Gap(a)),
-            b'w' => Call::Primary(primary::Call::Seed(a)),
-            b'f' => Call::Primary(primary::Call::Finish),
-            b's' => Call::Primary(primary::Call::Set(part(a), b as u8, c)),
-            b'n' => Call::Primary(primary::Call::Fresh),
+            b'm' => Call::Primary(trackers::Call::Mark(a)),
+            b'g' => Call::Primary(trackers::Call::Gap(a)),
+            b'w' => Call::Primary(trackers::Call::Seed(a)),
+            b'f' => Call::Primary(trackers::Call::Finish),
+            b's' => Call::Primary(trackers::Call::Set(part(a), b as u8, c)),
+            b'n' => Call::Primary(trackers::Call::Fresh),
             b'I' => Call::Serial(u64::from(a) << 32 | u64::from(b)),
             b'S' => Call::Set(PARTS[a as usize], b as u8, c),
             _ => Call::SetTracker(digit, part(a), b as u8, c),
@@ -141,14 +143,14 @@ pub(super) fn left(gone: &[Departure]) -> String {
     count(gone.len()) + &each.collect::<String>()
 }
 
-/// The line that answers a call; what is set has none.
-fn answer(both: &mut Both, call: &Call) -> String {
-    let a = both.step(call).expect("the library and the Rust agree");
+/// The line that answers a call, as the Rust has it; what is set has none.
+fn answer(rust: &mut Rust, call: &Call) -> String {
+    let a = rust.step(call);
     let letter = &lines(call)[..1];
-    let end = short(&both.ours);
+    let end = short(rust.form());
     match (call, a.told) {
         (Call::Show, _) => {
-            let all = whole(&both.ours) + &long(both.serial) + &tracker(&both.primary.ours);
+            let all = whole(rust.form()) + &long(rust.serial) + &tracker(rust.primary.form());
             format!("{letter}{all}\n")
         }
         (Call::Mark(..) | Call::Clear, _) => {
@@ -157,21 +159,20 @@ fn answer(both: &mut Both, call: &Call) -> String {
         (Call::Ready(_), _) => format!("R{}{}{end}\n", code(a.code), left(&a.left)),
         (Call::New(..) | Call::Gap(_), _) => format!("{letter}{}{end}\n", code(a.code)),
         (Call::Switch, Told::Flag(yes)) => {
-            let said = code(a.code) + &flag(yes) + &long(both.serial);
+            let said = code(a.code) + &flag(yes) + &long(rust.serial);
             format!("X{said}{end}\n")
         }
         (Call::Read(_), Told::Readings(r)) => {
             let counts = r.counts.map(|(c, n)| code(c) + &long(n)).concat();
-            let there = r.challenger.1.as_ref().map(hypothesis);
-            let entry = r.record.1.as_ref().map(record);
-            let each =
-                |c: u8, x: Option<String>| code(c) + &flag(x.is_some()) + &x.unwrap_or_default();
-            let places = each(r.challenger.0, there) + &each(r.record.0, entry);
+            let (h, e) = (&r.challenger, &r.record);
+            let there = if h.1 { hypothesis(&h.2) } else { String::new() };
+            let entry = if e.1 { record(&e.2) } else { String::new() };
+            let places = code(h.0) + &flag(h.1) + &there + &code(e.0) + &flag(e.1) + &entry;
             format!("V{counts}{places}\n")
         }
-        (Call::Primary(primary::Call::Set(..) | primary::Call::Fresh), _) => String::new(),
+        (Call::Primary(trackers::Call::Set(..) | trackers::Call::Fresh), _) => String::new(),
         (Call::Primary(_), Told::Primary(p)) => match p.told {
-            primary::Told::Flag(yes) => format!("{letter}{}{}\n", code(p.code), flag(yes)),
+            trackers::Told::Flag(yes) => format!("{letter}{}{}\n", code(p.code), flag(yes)),
             _ => format!("{letter}{}\n", code(p.code)),
         },
         _ => String::new(),
@@ -180,8 +181,8 @@ fn answer(both: &mut Both, call: &Call) -> String {
 
 /// What a script must print.
 fn answers(calls: &[Call]) -> String {
-    let mut both = Both::new();
-    calls.iter().map(|c| answer(&mut both, c)).collect()
+    let mut rust = Rust::new();
+    calls.iter().map(|c| answer(&mut rust, c)).collect()
 }
 
 /// The list as it stands in the repository.
@@ -203,7 +204,7 @@ fn anew() -> [Call; 4] {
         Call::Show,
         Call::New(1, false),
         Call::Serial(0),
-        Call::Primary(primary::Call::Fresh),
+        Call::Primary(trackers::Call::Fresh),
     ]
 }
 
@@ -215,7 +216,71 @@ fn choose() -> Vec<Call> {
     calls
 }
 
-/// A watch: text at one speed, three times as slow, and as before.
+pub(super) fn unreached() -> Vec<&'static str> {
+    super::missing::<Banks>(&super::reaches::<Banks>(&script()))
+}
+
+/// How many places a part of a bank has.
+fn places(part: Part) -> u8 {
+    match part {
+        Part::Streak | Part::Gap => 3,
+        Part::LogMark | Part::LogFrom | Part::LogTo | Part::LogApplied => 16,
+        _ if part as u8 >= Part::OfScore as u8 => 7,
+        _ => 1,
+    }
+}
+
+/// Every part of a bank set, in every place and each to another number, and of the trackers of its challengers and of the primary: a sound
+/// bank.
+fn every_part() -> Vec<Call> {
+    let dit = |i: u8| 22.0 + 16.0 * f32::from(i);
+    let mut all = Vec::new();
+    for i in 0..7 {
+        let set = |(part, place, v)| Call::SetTracker(i, part, place, v);
+        all.extend(primary::every_part(dit(i)).into_iter().map(set));
+    }
+    let of_primary = primary::every_part(100.0).into_iter();
+    let set = |(part, place, v)| Call::Primary(trackers::Call::Set(part, place, v));
+    all.extend(of_primary.map(set));
+    // what a challenger's tracker has there
+    let centroid = |wanted: trackers::Part, i| {
+        let has = |c: &Call| match *c {
+            Call::SetTracker(k, part, _, v) if k == i && part == wanted => Some(v),
+            _ => None,
+        };
+        f32::from_bits(all.iter().find_map(has).expect("it is set"))
+    };
+    let mut unit = 0;
+    let mut rest = Vec::new();
+    for part in PARTS {
+        for i in 0..places(part) {
+            unit += 1;
+            let near = |x: f32| (x + unit as f32 / 64.0).to_bits();
+            let value = match part {
+                Part::Width => 8,
+                Part::Challengers => 7,
+                Part::StreakLen | Part::GapsLen | Part::Pending => 3,
+                Part::LogLen => 16,
+                Part::Score | Part::GapScore | Part::OfScore | Part::OfGapScore => near(-9.0),
+                Part::OfOrigin => u32::from(i % 3),
+                Part::OfRetain => u32::from(i % 3 / 2) * (9 + unit),
+                Part::LogApplied | Part::OfReported | Part::Side => u32::from(i % 2),
+                Part::OfLnLo => centroid(trackers::Part::Lo, i).ln01().to_bits(),
+                Part::OfLnHi => centroid(trackers::Part::Hi, i).ln01().to_bits(),
+                Part::Switching | Part::HasSide | Part::HasLastGap | Part::HasPending => 1,
+                Part::Streak | Part::Gap | Part::LastGap | Part::LogFrom | Part::LogTo => {
+                    near(50.0)
+                }
+                _ => unit,
+            };
+            rest.push(Call::Set(part, i, value));
+        }
+    }
+    all.extend(rest);
+    all
+}
+
+/// A watch: text at one speed, three times as slow, and as before; and every part of a bank, before and after a mark and a switch.
 fn by_hand() -> Vec<Call> {
     let mut s = vec![Call::New(8, true), Call::Read(0)];
     let mut random = Random::new(3);
@@ -224,13 +289,13 @@ fn by_hand() -> Vec<Call> {
         let units = if random.below(2) == 0 { 1.0 } else { 3.1 };
         let jitter = 0.9 + 0.2 * random.fraction() as f32;
         let mark = (dit * units * jitter).to_bits();
-        s.push(Call::Primary(primary::Call::Mark(mark)));
+        s.push(Call::Primary(trackers::Call::Mark(mark)));
         if i > 4 {
             s.push(Call::Mark(mark, true));
             s.push(Call::Switch);
         } else if i == 4 {
             let first = s.iter().filter_map(|c| match c {
-                Call::Primary(primary::Call::Mark(d)) => Some(*d),
+                Call::Primary(trackers::Call::Mark(d)) => Some(*d),
                 _ => None,
             });
             let first = first.collect();
@@ -239,14 +304,17 @@ fn by_hand() -> Vec<Call> {
         s.push(Call::Gap((dit * jitter).to_bits()));
     }
     s.extend([Call::Read(0), Call::Show, Call::Clear]);
+    s.extend(anew());
+    s.extend(every_part());
+    s.extend([Call::Serial(5 << 32 | 600), Call::Show, Call::Read(2)]);
+    s.extend([Call::Mark(300f32.to_bits(), true), Call::Show]);
+    s.extend([Call::Switch, Call::Show, Call::Read(15), Call::Clear]);
     s
 }
 
 #[cfg(test)]
 mod tests {
     use super::*;
-    use crate::compare::Layer;
-    use crate::replay::reaches;
 
     /// What stands in the repository is what the Rust answers to the list there.
     #[test]
@@ -256,12 +324,20 @@ mod tests {
         assert!(calls.iter().map(lines).collect::<String>() == STDIN);
     }
 
-    /// The list alone reaches every branch.
+    /// The bank of which every part is set is a sound one, and so is the primary.
     #[test]
-    fn every_branch() {
-        let reached = reaches::<Banks>(&script());
-        for (i, b) in Banks::reached().iter().enumerate() {
-            assert!(reached.contains(&i), "not reached: {}", b.name);
+    fn every_part_is_sound() {
+        let mut rust = Rust::new();
+        for call in every_part() {
+            rust.step(&call);
         }
+        assert_eq!(crate::refusals::bank(rust.form()), Ok(()));
+        assert_eq!(crate::refusals::tracker(rust.primary.form()), Ok(()));
+        let each = |part| {
+            every_part()
+                .iter()
+                .any(|c| matches!(c, Call::Set(p, ..) if *p == part))
+        };
+        assert!(PARTS.iter().all(|&p| each(p)));
     }
 }

@@ -6,7 +6,7 @@ pub mod sender;
 pub mod station;
 pub mod tracker;
 
-use crate::compare::Layer;
+use crate::compare::Follow;
 use crate::random::Random;
 use crate::shrink::{shrink, smaller_list};
 use std::collections::BTreeSet;
@@ -15,6 +15,17 @@ use std::collections::BTreeSet;
 pub struct Files {
     pub stdin: Vec<u8>,
     pub stdout: String,
+}
+
+/// The branches that the list in the repository does not reach by itself.
+pub fn unreached(layer: &str) -> Option<Vec<&'static str>> {
+    match layer {
+        "sender" => Some(sender::unreached()),
+        "tracker" => Some(tracker::unreached()),
+        "bank" => Some(bank::unreached()),
+        "station" => Some(station::unreached()),
+        _ => None,
+    }
 }
 
 /// The files of the program that replays a layer.
@@ -63,17 +74,17 @@ fn held(has: bool, v: f32) -> String {
     }
 }
 
-/// The branches that a list reaches.
-fn reaches<L: Layer>(case: &L::Case) -> BTreeSet<usize> {
+/// The branches that a list reaches, by the Rust's side alone.
+fn reaches<L: Follow>(case: &L::Case) -> BTreeSet<usize> {
     let counts = || L::reached().iter().map(|b| b.count());
     let before: Vec<u64> = counts().collect();
-    L::run(case).expect("no difference");
+    L::follow(case);
     let after = counts().zip(before).map(|(b, a)| b > a);
     after.enumerate().filter(|x| x.1).map(|x| x.0).collect()
 }
 
 /// The branches that are not among these.
-fn missing<L: Layer>(done: &BTreeSet<usize>) -> Vec<&'static str> {
+fn missing<L: Follow>(done: &BTreeSet<usize>) -> Vec<&'static str> {
     let all = L::reached().iter().enumerate();
     all.filter(|(i, _)| !done.contains(i))
         .map(|(_, b)| b.name)
@@ -82,7 +93,7 @@ fn missing<L: Layer>(done: &BTreeSet<usize>) -> Vec<&'static str> {
 
 /// A list that reaches every branch: the first calls, and then for each branch that is left a random list of no more than so many
 /// calls, made as short as it can be, after the calls that begin anew.
-fn choose<L: Layer<Case = Vec<C>>, C: Clone>(
+fn choose<L: Follow<Case = Vec<C>>, C: Clone>(
     first: Vec<C>,
     random: impl Fn(&mut Random) -> Vec<C>,
     anew: &[C],

@@ -7,7 +7,7 @@
 
 use super::{float, Files};
 use crate::hullathan::sender::{ClassStats, SenderTiming as Plain};
-use crate::layers::sender::{plain, Call, Rust, Told};
+use crate::layers::sender::{plain, Call, Rust, Sender, Told};
 use crate::manta::timing::SenderTiming;
 
 fn line(call: Call) -> String {
@@ -39,8 +39,8 @@ fn answer(rust: &mut Rust, call: Call) -> String {
     let letter = line(call)[..1].to_string();
     let a = rust.call(call);
     let (has, value, report) = match a.told {
-        Told::Nothing | Told::Number(None) => (0, 0.0, String::new()),
-        Told::Number(Some(x)) => (1, x, String::new()),
+        Told::Nothing => (0, 0.0, String::new()),
+        Told::Number(has, x) => (u8::from(has), x, String::new()),
         Told::Flag(b) => (u8::from(b), 0.0, String::new()),
         Told::Report(dit, t) => (0, dit, classes(&t)),
     };
@@ -238,26 +238,6 @@ pub fn script() -> Vec<Call> {
     s
 }
 
-#[cfg(test)]
-mod tests {
-    use super::*;
-    use crate::compare::Layer;
-    use crate::layers::sender::Sender;
-
-    /// The files in the repository are these.
-    #[test]
-    fn files_are_as_written() {
-        let f = files();
-        assert!(f.stdin == include_bytes!("../../../crates/sender_replay/stdin"));
-        assert!(f.stdout == include_str!("../../../crates/sender_replay/stdout"));
-    }
-
-    /// The list alone reaches every branch.
-    #[test]
-    fn every_branch() {
-        Sender::run(&script()).expect("no difference");
-        for b in Sender::reached() {
-            assert!(b.count() > 0, "not reached: {}", b.name);
-        }
-    }
+pub(super) fn unreached() -> Vec<&'static str> {
+    super::missing::<Sender>(&super::reaches::<Sender>(&script()))
 }

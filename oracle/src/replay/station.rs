@@ -7,9 +7,10 @@
 use super::bank::{code, left, long};
 use super::tracker::tracker;
 use super::{count, flag, line, number, Files};
-use crate::compare::{Difference, Layer};
+use crate::compare::{Difference, Follow, Layer};
+use crate::hullathan::bank::Bank;
 use crate::hullathan::station::Station;
-use crate::layers::station::{watched_case, Both, Call, Event, Stations, GAP, MARK, SWITCH};
+use crate::layers::station::{watched_case, Call, Event, Rust, Stations, GAP, MARK, SWITCH};
 use crate::random::Random;
 use crate::reached::Branch;
 use std::sync::OnceLock;
@@ -67,6 +68,12 @@ impl Layer for Watches {
     }
 }
 
+impl Follow for Watches {
+    fn follow(case: &Vec<Call>) {
+        Stations::follow(case);
+    }
+}
+
 fn call_line(call: &Call) -> String {
     match call {
         Call::Fresh(width, switching) => line('W', u8::from(*switching), *width as u32, 0, 0),
@@ -107,13 +114,28 @@ fn parse(script: &str) -> Vec<Call> {
     script.lines().filter_map(call).collect()
 }
 
-/// The books and the primary's centroids.
+/// What of a bank changes most.
+fn bank(b: &Bank) -> String {
+    let scores = number(b.primary_score) + &number(b.primary_gap_score);
+    let seen = long(b.marks_seen) + &long(b.gaps_seen);
+    let choice = code(b.has_pending.0) + &count(b.pending);
+    let lists = count(b.streak_len) + &count(b.streak_gaps_len) + &count(b.log_len);
+    scores + &seen + &choice + &lists
+}
+
+/// What an answer shows of the station: the primary's centroids and serial, and how many challengers there are.
+fn shown(s: &Station) -> String {
+    let p = &s.primary.pair;
+    number(p.lo) + &number(p.hi) + &long(s.serial) + &count(s.bank.challengers_len)
+}
+
+/// The books, the primary's centroids and the bank's counts.
 fn books(s: &Station) -> String {
     let p = &s.primary.pair;
     let mut all = number(p.lo) + &number(p.hi) + &long(s.serial);
     all += &(count(s.bank.challengers_len) + &long(s.bank.started));
     all += &s.counts.map(long).concat();
-    all + &long(s.accepted) + "\n"
+    all + &long(s.accepted) + &bank(&s.bank) + "\n"
 }
 
 /// The primary and the rivals.
@@ -121,24 +143,29 @@ fn whole(s: &Station) -> String {
     let mut all = format!("A{}", tracker(&s.primary));
     for h in s.bank.challengers.iter().take(s.bank.challengers_len) {
         all += &(long(h.serial) + &number(h.score) + &number(h.gap_score));
-        all += &(count(h.age_marks as usize) + &code(h.origin) + &tracker(&h.tracker));
+        all += &(count(h.lead_marks as usize) + &count(h.age_marks as usize) + &code(h.origin));
+        all += &(count(h.retain_marks as usize) + &code(h.reported.0));
+        all += &(number(h.ln_lo) + &number(h.ln_hi) + &tracker(&h.tracker));
     }
     all + "\n"
 }
 
-/// What a script must print.
+/// What a script must print, as the Rust has it.
 fn answers(calls: &[Call]) -> String {
-    let mut both = Both::new();
+    let mut rust = Rust::new();
     let mut all = String::new();
     for (i, call) in calls.iter().enumerate() {
-        let a = both.step(call).expect("the library and the Rust agree");
+        let a = rust.step(call);
         all += &match call {
             Call::Fresh(..) => format!("W{}", code(a.code)),
-            _ => format!("E{}{}{}", flag(a.refused), code(a.code), left(&a.left)),
+            _ => {
+                let said = flag(a.refused) + &code(a.code) + &shown(rust.form());
+                format!("E{said}{}", left(&a.left))
+            }
         };
-        all += &books(&both.ours);
+        all += &books(rust.form());
         if shows(calls, i) {
-            all += &whole(&both.ours);
+            all += &whole(rust.form());
         }
     }
     all
@@ -156,6 +183,10 @@ pub fn files() -> Files {
         stdin: text(&calls).into(),
         stdout: answers(&calls),
     }
+}
+
+pub(super) fn unreached() -> Vec<&'static str> {
+    super::missing::<Watches>(&super::reaches::<Watches>(&script()))
 }
 
 /// A watch: text at one speed, three times as slow, and as before.
@@ -183,7 +214,6 @@ fn by_hand() -> Vec<Call> {
 #[cfg(test)]
 mod tests {
     use super::*;
-    use crate::replay::{missing, reaches};
 
     /// What stands in the repository is what the Rust answers to the list there.
     #[test]
@@ -191,12 +221,5 @@ mod tests {
         let calls = script();
         assert!(answers(&calls) == include_str!("../../../crates/station_replay/stdout"));
         assert!(text(&calls) == STDIN);
-    }
-
-    /// The list alone reaches every branch of a short watch.
-    #[test]
-    fn every_branch() {
-        let reached = reaches::<Watches>(&script());
-        assert_eq!(missing::<Watches>(&reached), [""; 0]);
     }
 }

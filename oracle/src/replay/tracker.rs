@@ -9,7 +9,7 @@
 
 use super::{count, flag, held, line, number, Files};
 use crate::hullathan::tracker::SpeedTracker as Plain;
-use crate::layers::tracker::{parts, random_case, Both, Call, Told, Tracker, PARTS};
+use crate::layers::tracker::{parts, random_case, Call, Part, Rust, Told, Tracker, PARTS};
 use crate::random::Random;
 
 const STDIN: &str = include_str!("../../../crates/tracker_replay/stdin");
@@ -93,9 +93,9 @@ pub fn tracker(t: &Plain) -> String {
         + &flag(t.lo_uncorroborated.is())
 }
 
-/// The lines that answer a call; a gap that is put on the list has none.
-fn answer(both: &mut Both, call: &Call) -> String {
-    let a = both.step(call).expect("the library and the Rust agree");
+/// The lines that answer a call, as the Rust has it; a gap that is put on the list has none.
+fn answer(rust: &mut Rust, call: &Call) -> String {
+    let a = rust.step(call);
     let letter = lines(call).lines().last().expect("a line")[..1].to_string();
     let told = match a.told {
         Told::Nothing => format!(" {:02X} 0", a.code),
@@ -103,20 +103,19 @@ fn answer(both: &mut Both, call: &Call) -> String {
         Told::Readings(r) => {
             let mut s = format!(" {:02X} {}", r.codes[0], u8::from(r.ready));
             s += &format!(" {:02X} {:08X}", r.codes[1], r.regime);
-            for (code, x) in r.codes[2..].iter().zip(r.numbers) {
-                let value = f32::from_bits(x.unwrap_or(0));
-                s += &format!(" {code:02X}{}{}", flag(x.is_some()), number(value));
+            for (code, (has, bits)) in r.codes[2..].iter().zip(r.numbers) {
+                s += &format!(" {code:02X}{}{}", flag(has), number(f32::from_bits(bits)));
             }
             s
         }
     };
-    format!("{letter}{told}{}\n", tracker(&both.ours))
+    format!("{letter}{told}{}\n", tracker(rust.form()))
 }
 
 /// What a script must print.
 fn answers(calls: &[Call]) -> String {
-    let mut both = Both::new();
-    calls.iter().map(|c| answer(&mut both, c)).collect()
+    let mut rust = Rust::new();
+    calls.iter().map(|c| answer(&mut rust, c)).collect()
 }
 
 /// The list as it stands in the repository.
@@ -142,7 +141,38 @@ fn spelled(case: Vec<Call>) -> Vec<Call> {
     fresh.chain(case.into_iter().flat_map(spell)).collect()
 }
 
-/// Document 01's settled examples, and some keyed text.
+/// Every part of a tracker set, in every place and each to another number: a sound tracker about a dit.
+pub(super) fn every_part(dit: f32) -> Vec<(Part, u8, u32)> {
+    let mut all = Vec::new();
+    let mut unit = 0;
+    for part in PARTS {
+        let places = match part {
+            Part::Init | Part::RingDur | Part::RingDit | Part::RingLo | Part::RingHi => 12,
+            Part::Recent => 5,
+            _ => 1,
+        };
+        for i in 0..places {
+            unit += 1;
+            let near = |x: f32| (x + unit as f32 / 16.0).to_bits();
+            let value = match part {
+                Part::Lo | Part::RingLo => near(dit),
+                Part::Hi | Part::RingHi => near(3.0 * dit),
+                Part::Hint => (2.5 + dit / 128.0).to_bits(),
+                Part::Init | Part::RingDur | Part::Recent | Part::Wpm | Part::Egap => near(30.0),
+                Part::InitLen | Part::RingLen => 12,
+                Part::RecentLen => 5,
+                Part::LoN | Part::Regime => unit,
+                Part::RingDit => u32::from(i % 3 == 0),
+                Part::Confirmed | Part::Uncorroborated => 0,
+                _ => 1,
+            };
+            all.push((part, i, value));
+        }
+    }
+    all
+}
+
+/// Document 01's settled examples, every part of a tracker, and some keyed text.
 fn by_hand() -> Vec<Call> {
     let examples: [&[f32]; 10] = [
         &[60.0; 5],
@@ -163,6 +193,10 @@ fn by_hand() -> Vec<Call> {
         s.push(Call::Read);
     }
     s.push(Call::Fresh);
+    let set = |(part, i, v)| Call::Set(part, i, v);
+    s.extend(every_part(60.0).into_iter().map(set));
+    s.extend([Call::Read, Call::Mark(60f32.to_bits()), Call::Read]);
+    s.push(Call::Fresh);
     let mut random = Random::new(3);
     for i in 0..48 {
         let dit = if i < 24 { 57.0 } else { 96.0 };
@@ -181,11 +215,13 @@ fn choose() -> Vec<Call> {
     super::choose::<Tracker, Call>(by_hand(), random, &[Call::Fresh], 1 << 32)
 }
 
+pub(super) fn unreached() -> Vec<&'static str> {
+    super::missing::<Tracker>(&super::reaches::<Tracker>(&script()))
+}
+
 #[cfg(test)]
 mod tests {
     use super::*;
-    use crate::compare::Layer;
-    use crate::replay::reaches;
 
     /// What stands in the repository is what the Rust answers to the list there.
     #[test]
@@ -195,12 +231,14 @@ mod tests {
         assert!(calls.iter().map(lines).collect::<String>() == STDIN);
     }
 
-    /// The list alone reaches every branch.
+    /// The tracker of which every part is set is a sound one, and has something in every place.
     #[test]
-    fn every_branch() {
-        let reached = reaches::<Tracker>(&script());
-        for (i, b) in Tracker::reached().iter().enumerate() {
-            assert!(reached.contains(&i), "not reached: {}", b.name);
+    fn every_part_is_sound() {
+        let mut rust = Rust::new();
+        for (part, i, v) in every_part(60.0) {
+            rust.step(&Call::Set(part, i, v));
         }
+        assert_eq!(crate::refusals::tracker(rust.form()), Ok(()));
+        assert_eq!(every_part(60.0).len(), 18 + 5 * 12 + 5);
     }
 }

@@ -483,10 +483,10 @@ fn switch(before: &Bank, primary: &Plain, answer: &Answer) {
 
 fn read(answer: &Answer) {
     if let Told::Readings(r) = &answer.told {
-        READ_CHALLENGER.when(r.challenger.1.is_some());
-        READ_NO_CHALLENGER.when(r.challenger.1.is_none());
-        READ_RECORD.when(r.record.1.is_some());
-        READ_NO_RECORD.when(r.record.1.is_none());
+        READ_CHALLENGER.when(r.challenger.1);
+        READ_NO_CHALLENGER.when(!r.challenger.1);
+        READ_RECORD.when(r.record.1);
+        READ_NO_RECORD.when(!r.record.1);
     }
 }
 

@@ -40,7 +40,11 @@ fn names(bank: &TimingBank) -> Vec<Option<usize>> {
 fn gone(before: &Bank, h: &TimingHypothesis, cause: u8) -> Departure {
     let place = h.name.expect("one that leaves was there before");
     let serial = before.challengers[place].serial;
-    Departure { serial, cause }
+    Departure {
+        serial,
+        cause,
+        ..Departure::default()
+    }
 }
 
 /// Who was replaced: the list before and after a spawn, place by place.
@@ -149,7 +153,11 @@ mod tests {
     }
 
     fn gone(serial: u64, cause: u8) -> Departure {
-        Departure { serial, cause }
+        Departure {
+            serial,
+            cause,
+            ..Departure::default()
+        }
     }
 
     #[test]

@@ -2,11 +2,14 @@
 
 pub(crate) mod cases;
 mod count;
+#[cfg(test)]
+pub(crate) mod damaged;
 pub(crate) mod follow;
 mod parts;
 pub(crate) mod state;
 
-use crate::compare::{agree, Difference, Layer};
+use crate::compare::{agree, Difference, Follow, Layer};
+use crate::forms;
 use crate::hullathan::bank as ours;
 use crate::hullathan::bank::{Bank, Departure, Hypothesis, Record};
 use crate::hullathan::tracker::SpeedTracker as Plain;
@@ -88,15 +91,28 @@ impl fmt::Debug for Call {
     }
 }
 
-/// What the readings tell: each count with its code; the challenger and the record at the place, with their codes.
+/// What the readings tell: each count with its code; whether there is a challenger and a record at the place, with
+/// their codes, and what they are, zeros where there is none.
 #[derive(Debug, Clone, Copy)]
 pub struct Readings {
     pub counts: [(u8, u64); 3],
-    pub challenger: (u8, Option<Hypothesis>),
-    pub record: (u8, Option<Record>),
+    pub challenger: (u8, bool, Hypothesis),
+    pub record: (u8, bool, Record),
 }
 
-#[derive(Debug, Clone)]
+impl PartialEq for Readings {
+    fn eq(&self, other: &Readings) -> bool {
+        let (a, b) = (&self.challenger, &other.challenger);
+        let (r, s) = (&self.record, &other.record);
+        self.counts == other.counts
+            && (a.0, a.1) == (b.0, b.1)
+            && forms::identical(&a.2, &b.2)
+            && (r.0, r.1) == (s.0, s.1)
+            && forms::identical_numbers(&r.2, &s.2)
+    }
+}
+
+#[derive(Debug, Clone, PartialEq)]
 pub enum Told {
     Nothing,
     Flag(bool),
@@ -122,11 +138,13 @@ impl Answer {
     }
 }
 
-/// What a call of the library hands back.
+/// What a call of the library hands back: those that left with their number, and all three states.
+#[derive(Debug, Clone)]
 struct Back {
     code: u8,
     yes: bool,
-    left: (Vec<Departure>, bool),
+    left: Vec<Departure>,
+    left_len: usize,
     bank: Bank,
     primary: Plain,
     serial: u64,
@@ -158,314 +176,354 @@ fn refusal(b: &Bank, primary: &Plain, call: &Call) -> Result<(), u8> {
     }
 }
 
-/// Those that left; beyond their number an answer has zeros.
-fn departures(left: &[Departure], n: usize) -> (Vec<Departure>, bool) {
-    let (gone, beyond) = left.split_at(n.min(9));
-    let zeros = beyond.iter().all(|d| *d == Departure::default());
-    (gone.to_vec(), zeros)
-}
-
-/// Both sides of a run: the library's bank and primary, the Rust's, and what was followed.
-pub struct Both {
-    pub ours: Bank,
-    /// The Rust's bank; there is none while the state is unsound, and none is made before it is wanted.
-    rust: Option<TimingBank>,
+/// The Rust's side: manta's bank and primary with document 01's refusals before them, the serials followed beside them,
+/// and the forms that they stand for. What a script sets and what the Rust does make it; nothing of it comes from the
+/// library.
+#[derive(Debug, Clone)]
+pub struct Rust {
+    form: Bank,
+    /// There is none while the form is unsound, and none is made of what was set before it is wanted.
+    bank: Option<TimingBank>,
     stale: bool,
-    pub primary: tracker::Both,
+    pub primary: tracker::Rust,
+    /// The primary's serial.
     pub serial: u64,
 }
 
-impl Both {
-    pub fn new() -> Both {
-        let first = ours::new(1, false).bank;
-        Both {
-            ours: first,
-            rust: None,
-            stale: true,
-            primary: tracker::Both::new(),
+impl Rust {
+    pub fn new() -> Rust {
+        let bank = TimingBank::new(SpeedBankConfig {
+            width: 1,
+            switching: false,
+        });
+        Rust {
+            form: state::plain(&bank, &[], 0),
+            bank: Some(bank),
+            stale: false,
+            primary: tracker::Rust::new(),
             serial: 0,
         }
     }
 
-    /// One call to both sides: the answers, and both whole states afterwards; after a refusal each bit of what was handed in.
-    pub fn step(&mut self, call: &Call) -> Result<Answer, Difference> {
+    /// The bank in the library's form: as it was set, or as the last call that was not refused left it.
+    pub fn form(&self) -> &Bank {
+        &self.form
+    }
+
+    pub fn step(&mut self, call: &Call) -> Answer {
         match call {
-            Call::Set(part, i, v) => parts::set(&mut self.ours, *part, *i, *v),
+            Call::Set(part, i, v) => parts::set(&mut self.form, *part, *i, *v),
             Call::SetTracker(k, part, i, v) => {
                 let place = usize::from(*k) % 8;
-                tracker::set(&mut self.ours.challengers[place].tracker, *part, *i, *v);
+                tracker::set(&mut self.form.challengers[place].tracker, *part, *i, *v);
             }
-            Call::Hand(b) => self.ours = **b,
+            Call::Hand(b) => self.form = **b,
             Call::Serial(n) => self.serial = *n,
-            Call::Show => return Ok(Answer::done(Told::Nothing)),
+            Call::Show => return Answer::done(Told::Nothing),
             Call::Primary(c) => {
-                let answer = self.primary.step(c)?;
-                return Ok(Answer {
+                let answer = self.primary.step(c);
+                return Answer {
                     code: answer.code,
                     ..Answer::done(Told::Primary(answer))
-                });
+                };
             }
-            Call::New(width, switching) => return self.fresh(*width, *switching, call),
+            Call::New(width, switching) => return self.fresh(*width, *switching),
             Call::Read(i) => return self.read(*i, call),
             _ => return self.call(call),
         }
         self.stale = true;
-        Ok(Answer::done(Told::Nothing))
+        Answer::done(Told::Nothing)
     }
 
-    /// The Rust's bank of what was handed in.
+    /// manta's bank of what was set.
     fn settle(&mut self) {
         if self.stale {
-            self.rust = refusals::bank(&self.ours)
-                .is_ok()
-                .then(|| state::manta(&self.ours));
+            let sound = refusals::bank(&self.form).is_ok();
+            self.bank = sound.then(|| state::manta(&self.form));
             self.stale = false;
         }
     }
 
-    fn fresh(&mut self, width: usize, switching: bool, call: &Call) -> Result<Answer, Difference> {
-        let back = ours::new(width, switching);
-        let expected = refusals::width(width);
-        agree(call, "the code", back.code, expected.err().unwrap_or(0))?;
-        let cfg = match expected {
-            Ok(()) => SpeedBankConfig { width, switching },
-            Err(_) => SpeedBankConfig::default(),
+    fn fresh(&mut self, width: usize, switching: bool) -> Answer {
+        let refused = refusals::width(width).err();
+        let cfg = match refused {
+            None => SpeedBankConfig { width, switching },
+            Some(_) => SpeedBankConfig::default(),
         };
-        self.ours = back.bank;
-        self.rust = Some(TimingBank::new(cfg));
+        let bank = TimingBank::new(cfg);
+        self.form = state::plain(&bank, &[], 0);
+        self.bank = Some(bank);
         self.stale = false;
-        self.compare(call)?;
-        agree(call, "started", self.ours.started, 0)?;
-        Ok(Answer {
-            code: back.code,
+        Answer {
+            code: refused.unwrap_or(0),
             ..Answer::done(Told::Nothing)
-        })
+        }
     }
 
-    fn read(&mut self, i: usize, call: &Call) -> Result<Answer, Difference> {
+    fn read(&mut self, i: usize, call: &Call) -> Answer {
         self.settle();
-        let b = self.ours;
-        let code = refusal(&b, &self.primary.ours, call).err().unwrap_or(0);
-        let tallies = [ours::hypotheses(b), ours::marks_seen(b), ours::gaps_seen(b)];
-        let (challenger, record) = (ours::challenger(b, i), ours::switch_record(b, i));
-        let readings = Readings {
-            counts: tallies.map(|t| (t.code, t.value)),
-            challenger: (
-                challenger.code,
-                challenger.has.then_some(challenger.challenger),
-            ),
-            record: (record.code, record.has.then_some(record.record)),
-        };
-        let counts = match &self.rust {
-            Some(m) if code == 0 => [m.hypotheses() as u64, m.marks_seen(), m.gaps_seen()],
-            _ => [0; 3],
-        };
-        agree(
-            call,
-            "the counts",
-            readings.counts,
-            counts.map(|n| (code, n)),
-        )?;
-        agree(call, "the challenger's code", challenger.code, code)?;
-        agree(call, "the record's code", record.code, code)?;
-        let rust = self.rust.as_ref().filter(|_| code == 0);
-        let there = rust.and_then(|m| m.challengers().get(i));
-        let logged = rust.and_then(|m| m.switch_log().nth(i));
-        if !state::same_reading(&readings, there, logged) {
-            return Err(Difference {
-                call: format!("{call:?}"),
-                hullathan: format!("{readings:?}"),
-                rust: format!("{there:?}, {logged:?}"),
-            });
-        }
-        Ok(Answer {
+        let code = refusal(&self.form, self.primary.form(), call)
+            .err()
+            .unwrap_or(0);
+        let bank = self.bank.as_ref().filter(|_| code == 0);
+        let counts = bank.map_or([0; 3], |m| {
+            [m.hypotheses() as u64, m.marks_seen(), m.gaps_seen()]
+        });
+        let there = bank.is_some_and(|m| i < m.challengers().len());
+        let logged = bank.is_some_and(|m| i < m.switch_log().count());
+        // the serials stand in the form; what else is in it was read from manta's bank or into it
+        let canonical = bank.map(|m| state::plain(m, &state::serials(&self.form), 0));
+        let challenger = canonical.filter(|_| there).map(|b| b.challengers[i]);
+        let record = canonical.filter(|_| logged).map(|b| b.log[i]);
+        Answer {
             code,
-            ..Answer::done(Told::Readings(Box::new(readings)))
-        })
+            ..Answer::done(Told::Readings(Box::new(Readings {
+                counts: counts.map(|n| (code, n)),
+                challenger: (code, there, challenger.unwrap_or_default()),
+                record: (code, logged, record.unwrap_or_default()),
+            })))
+        }
+    }
+
+    fn call(&mut self, call: &Call) -> Answer {
+        self.settle();
+        let said = |yes| match call {
+            Call::Switch => Told::Flag(yes),
+            _ => Told::Nothing,
+        };
+        if let Err(code) = refusal(&self.form, self.primary.form(), call) {
+            return Answer {
+                code,
+                ..Answer::done(said(false))
+            };
+        }
+        let (yes, left) = self.act(call);
+        Answer {
+            left,
+            ..Answer::done(said(yes))
+        }
+    }
+
+    /// A call that is not refused: whether the two were exchanged, and who left.
+    fn act(&mut self, call: &Call) -> (bool, Vec<Departure>) {
+        let (before, primary) = (self.form, &mut self.primary);
+        let bank = self.bank.as_mut().expect("a sound bank");
+        let (mut yes, mut left) = (false, Vec::new());
+        match call {
+            Call::Mark(d, live) => {
+                let (primary, d) = (primary.sound(), f32::from_bits(*d));
+                bank.on_mark(primary, d, *live);
+                left = follow::left_at_mark(&before, bank, primary, d, *live);
+            }
+            Call::Gap(d) => bank.on_gap(primary.sound(), f32::from_bits(*d)),
+            Call::Ready(marks) => {
+                bank.on_ready(primary.sound(), &floats(marks));
+                left = follow::left_at_ready(&before, bank);
+            }
+            Call::Clear => {
+                bank.clear();
+                left = follow::left_at_clear(&before, bank);
+            }
+            _ => yes = primary.change(|t| bank.take_switch(t)),
+        }
+        let (mut serials, started) = follow::serials(&before, bank);
+        follow::number(bank);
+        if yes {
+            // a serial travels with its tracker
+            std::mem::swap(&mut serials[before.pending], &mut self.serial);
+        }
+        self.form = state::plain(bank, &serials, started);
+        (yes, left)
+    }
+}
+
+impl Default for Rust {
+    fn default() -> Rust {
+        Rust::new()
+    }
+}
+
+/// Both sides of a run: the library's bank and primary with its serial, and the Rust's.
+#[derive(Clone)]
+struct Both {
+    ours: Bank,
+    primary: Plain,
+    serial: u64,
+    rust: Rust,
+}
+
+impl Both {
+    fn new() -> Both {
+        Both {
+            ours: ours::new(1, false).bank,
+            primary: crate::hullathan::tracker::new(),
+            serial: 0,
+            rust: Rust::new(),
+        }
+    }
+
+    /// One call to both sides: the answers, and both whole states afterwards; after a refusal each bit of what was
+    /// handed in. What is set is set on both sides.
+    fn step(&mut self, call: &Call) -> Result<Answer, Difference> {
+        match call {
+            Call::Primary(c) => {
+                let answer = tracker::step(&mut self.primary, &mut self.rust.primary, c)?;
+                Ok(Answer {
+                    code: answer.code,
+                    ..Answer::done(Told::Primary(answer))
+                })
+            }
+            Call::Read(i) => {
+                let expected = self.rust.step(call);
+                let told = Told::Readings(Box::new(readings(self.ours, *i)));
+                agree(call, "the readings", &told, &expected.told)?;
+                Ok(expected)
+            }
+            _ if call.is_of_bank() => {
+                let back = self.library(call);
+                if matches!(call, Call::Switch) {
+                    self.lent(call)?;
+                }
+                self.hold(call, back)
+            }
+            _ => {
+                let answer = self.rust.step(call);
+                (self.ours, self.serial) = (*self.rust.form(), self.rust.serial);
+                Ok(answer)
+            }
+        }
     }
 
     /// The library's answer.
     fn library(&self, call: &Call) -> Back {
-        let (b, primary, serial) = (self.ours, self.primary.ours, self.serial);
-        let back = |code, bank, left| Back {
+        let (b, primary, serial) = (self.ours, self.primary, self.serial);
+        let back = |code, bank| Back {
             code,
             yes: false,
-            left,
+            left: Vec::new(),
+            left_len: 0,
             bank,
             primary,
             serial,
         };
-        let answered = |r: ours::Answered| back(r.code, r.bank, departures(&r.left, r.left_len));
+        // no field of an answer is left out
+        let answered = |r| {
+            let ours::Answered {
+                code,
+                bank,
+                left,
+                left_len,
+            } = r;
+            let left = left.to_vec();
+            Back {
+                left,
+                left_len,
+                ..back(code, bank)
+            }
+        };
+        let heard = |ours::Heard { code, bank }| back(code, bank);
         match call {
+            Call::New(width, switching) => heard(ours::new(*width, *switching)),
             Call::Mark(d, live) => answered(ours::on_mark(b, primary, f32::from_bits(*d), *live)),
             Call::Ready(marks) => answered(ours::on_ready(b, primary, &floats(marks))),
             Call::Clear => answered(ours::clear(b)),
-            Call::Gap(d) => {
-                let r = ours::on_gap(b, primary, f32::from_bits(*d));
-                back(r.code, r.bank, (Vec::new(), true))
-            }
+            Call::Gap(d) => heard(ours::on_gap(b, primary, f32::from_bits(*d))),
             _ => {
-                let r = ours::take_switch(b, primary, serial);
+                let ours::Switched {
+                    code,
+                    yes,
+                    bank,
+                    primary,
+                    serial,
+                } = ours::take_switch(b, primary, serial);
                 Back {
-                    yes: r.yes,
-                    primary: r.primary,
-                    serial: r.serial,
-                    ..back(r.code, r.bank, (Vec::new(), true))
+                    yes,
+                    primary,
+                    serial,
+                    ..back(code, bank)
                 }
             }
         }
     }
 
-    fn call(&mut self, call: &Call) -> Result<Answer, Difference> {
-        self.settle();
-        let before = self.ours;
-        let back = self.library(call);
-        let code = refusal(&before, &self.primary.ours, call)
-            .err()
-            .unwrap_or(0);
-        agree(call, "the code", back.code, code)?;
-        agree(call, "zeros beyond those that left", back.left.1, true)?;
-        if matches!(call, Call::Switch) {
-            self.lent(call, &back)?;
-        }
-        if code != 0 {
-            return self.refused(call, back);
-        }
-        let expected = self.act(&before, call);
-        agree(call, "the answer", back.yes, expected.yes)?;
-        // "Only the order of departures within one answer is free"
+    /// What the library hands back, held to the Rust's answer and states.
+    fn hold(&mut self, call: &Call, back: Back) -> Result<Answer, Difference> {
+        let expected = self.rust.step(call);
+        agree(call, "the code", back.code, expected.code)?;
         agree(
             call,
-            "those that left",
-            sorted(&back.left.0),
-            sorted(&expected.left),
+            "the answer",
+            back.yes,
+            expected.told == Told::Flag(true),
         )?;
-        agree(call, "the primary's serial", back.serial, expected.serial)?;
-        (self.ours, self.serial) = (back.bank, back.serial);
-        agree(call, "started", self.ours.started, expected.started)?;
-        let serials: Vec<u64> = held(&self.ours).iter().map(|h| h.serial).collect();
-        agree(call, "the serials", serials, expected.serials)?;
-        self.primary.ours = back.primary;
-        self.primary.compare(call)?;
-        self.compare(call)?;
-        Ok(Answer {
-            code: 0,
-            told: match call {
-                Call::Switch => Told::Flag(back.yes),
-                _ => Told::Nothing,
-            },
-            left: expected.left,
-        })
+        same_left(call, &back.left, back.left_len, &expected.left)?;
+        agree(call, "the primary's serial", back.serial, self.rust.serial)?;
+        // to the last byte: a refused call hands back what it was handed, any other a form with zeros where nothing is
+        if !forms::identical(&back.bank, self.rust.form()) {
+            let (ours, theirs) = (State::from(&back.bank), State::from(self.rust.form()));
+            return Err(states::unlike(&format!("{call:?}"), &ours, &theirs));
+        }
+        let kept = expected.code == 0 || tracker::identical(&self.primary, &back.primary);
+        agree(call, "refused: the primary is as it was", kept, true)?;
+        tracker::compare(&back.primary, &self.rust.primary, call)?;
+        (self.ours, self.primary, self.serial) = (back.bank, back.primary, back.serial);
+        Ok(expected)
     }
 
-    /// The same switch call with the primary lent: its answer, and both whole states.
-    fn lent(&self, call: &Call, back: &Back) -> Result<(), Difference> {
-        let mut primary = self.primary.ours;
-        let r = ours::take_switch_lent(self.ours, &mut primary, self.serial);
-        let told = (r.code, r.yes, r.serial);
-        agree(
-            call,
-            "lent: the answer",
-            told,
-            (back.code, back.yes, back.serial),
-        )?;
-        let bank = state::identical(&r.bank, &back.bank);
-        agree(
-            call,
-            "lent: the bank is that of the call by value",
+    /// The same switch call with the primary lent: its answer and states; what is not exchanged stays as it was.
+    fn lent(&self, call: &Call) -> Result<(), Difference> {
+        let mut lent = self.primary;
+        let ours::Lent {
+            code,
+            yes,
             bank,
-            true,
-        )?;
-        let found = tracker::identical(&primary, &back.primary);
-        agree(
-            call,
-            "lent: the primary is found in the lent tracker",
-            found,
-            true,
-        )
-    }
-
-    /// A refused call hands back what it was handed.
-    fn refused(&self, call: &Call, back: Back) -> Result<Answer, Difference> {
-        let kept = state::identical(&self.ours, &back.bank)
-            && tracker::identical(&self.primary.ours, &back.primary)
-            && (back.serial, back.yes, back.left.0.len()) == (self.serial, false, 0);
-        agree(call, "refused: all is handed back as it was", kept, true)?;
-        Ok(Answer {
-            code: back.code,
-            ..Answer::done(match call {
-                Call::Switch => Told::Flag(false),
-                _ => Told::Nothing,
-            })
-        })
-    }
-
-    /// The Rust's answer to a call that is not refused, and what is followed beside it.
-    fn act(&mut self, before: &Bank, call: &Call) -> Expected {
-        let bank = self.rust.as_mut().expect("a sound bank");
-        let mut e = Expected {
-            yes: false,
+            serial,
+        } = ours::take_switch_lent(self.ours, &mut lent, self.serial);
+        let back = Back {
+            code,
+            yes,
             left: Vec::new(),
-            serials: Vec::new(),
-            started: 0,
-            serial: self.serial,
+            left_len: 0,
+            bank,
+            primary: lent,
+            serial,
         };
-        match call {
-            Call::Mark(d, live) => {
-                let (primary, d) = (self.primary.sound_mut(), f32::from_bits(*d));
-                bank.on_mark(primary, d, *live);
-                e.left = follow::left_at_mark(before, bank, primary, d, *live);
-            }
-            Call::Gap(d) => bank.on_gap(self.primary.sound_mut(), f32::from_bits(*d)),
-            Call::Ready(marks) => {
-                bank.on_ready(self.primary.sound_mut(), &floats(marks));
-                e.left = follow::left_at_ready(before, bank);
-            }
-            Call::Clear => {
-                bank.clear();
-                e.left = follow::left_at_clear(before, bank);
-            }
-            _ => e.yes = bank.take_switch(self.primary.sound_mut()),
-        }
-        (e.serials, e.started) = follow::serials(before, bank);
-        follow::number(bank);
-        if e.yes {
-            // a serial travels with its tracker
-            std::mem::swap(&mut e.serials[before.pending], &mut e.serial);
-        }
-        e
-    }
-
-    fn compare(&self, call: &Call) -> Result<(), Difference> {
-        let Some(m) = &self.rust else {
-            return Ok(());
-        };
-        let b = &self.ours;
-        if state::same(b, m) {
-            return Ok(());
-        }
-        agree(call, "no count is above its capacity", state::fits(b), true)?;
-        states::compare(
-            &format!("{call:?}"),
-            &State::from(&state::manta(b)),
-            &State::from(m),
-        )
+        let answer = self.clone().hold(call, back)?;
+        let kept = answer.told == Told::Flag(true) || tracker::identical(&lent, &self.primary);
+        agree(call, "lent: a primary that stays is as it was", kept, true)
     }
 }
 
-impl Default for Both {
-    fn default() -> Both {
-        Both::new()
+/// Every reading of the library.
+fn readings(b: Bank, i: usize) -> Readings {
+    let tallies = [ours::hypotheses(b), ours::marks_seen(b), ours::gaps_seen(b)];
+    let there = |ours::Challenger {
+                     code,
+                     has,
+                     challenger,
+                 }| (code, has, challenger);
+    let logged = |ours::Logged { code, has, record }| (code, has, record);
+    Readings {
+        counts: tallies.map(|ours::Tally { code, value }| (code, value)),
+        challenger: there(ours::challenger(b, i)),
+        record: logged(ours::switch_record(b, i)),
     }
 }
 
-/// What the Rust answered, and what was followed beside it.
-struct Expected {
-    yes: bool,
-    left: Vec<Departure>,
-    serials: Vec<u64>,
-    started: u64,
-    serial: u64,
+/// Those that left are the Rust's, and beyond their number an answer has zeros.
+pub(crate) fn same_left(
+    call: &dyn fmt::Debug,
+    left: &[Departure],
+    n: usize,
+    expected: &[Departure],
+) -> Result<(), Difference> {
+    agree(call, "how many left", n, expected.len())?;
+    agree(call, "there is room for them", n <= left.len(), true)?;
+    let (gone, beyond) = left.split_at(n);
+    // "Only the order of departures within one answer is free"
+    agree(call, "those that left", sorted(gone), sorted(expected))?;
+    let zeros = beyond.iter().all(|d| *d == Departure::default());
+    agree(call, "zeros beyond those that left", zeros, true)
 }
 
 fn sorted(left: &[Departure]) -> Vec<Departure> {
@@ -498,10 +556,9 @@ impl Layer for Banks {
         let mut both = Both::new();
         let mut calls = 0;
         for call in case {
-            let before = both.ours;
-            let primary = both.primary.ours;
+            let (before, primary) = (*both.rust.form(), *both.rust.primary.form());
             let answer = both.step(call)?;
-            count::count(&before, &both.ours, &primary, call, &answer);
+            count::count(&before, both.rust.form(), &primary, call, &answer);
             calls += u64::from(call.is_of_bank());
         }
         Ok(calls)
@@ -513,6 +570,17 @@ impl Layer for Banks {
 
     fn reached() -> &'static [&'static crate::reached::Branch] {
         reached::ALL
+    }
+}
+
+impl Follow for Banks {
+    fn follow(case: &Vec<Call>) {
+        let mut rust = Rust::new();
+        for call in case {
+            let (before, primary) = (*rust.form(), *rust.primary.form());
+            let answer = rust.step(call);
+            count::count(&before, rust.form(), &primary, call, &answer);
+        }
     }
 }
 

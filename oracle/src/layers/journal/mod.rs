@@ -263,6 +263,19 @@ mod tests {
         assert_eq!(compare(&shell("true"), b""), Ok(0));
     }
 
+    /// Each byte of the answers counts, and is placed in its line.
+    #[test]
+    fn every_byte() {
+        let out = answers(WORKED);
+        for at in 0..out.len() {
+            let mut other = out.clone();
+            other[at] ^= 1;
+            let lines = out[..at].iter().filter(|&&b| b == b'\n').count() as u64;
+            let parted = compare(&shell(&prints(&other)), WORKED);
+            assert_eq!(parted, Err(Parted { lines, ended: None }), "byte {at}");
+        }
+    }
+
     /// A journal of parts is answered as a whole.
     #[test]
     fn in_parts() {

@@ -99,5 +99,8 @@ pub fn report(seed: u64, lines: u64) -> bool {
     }
     let all = count::reached::ALL.iter().copied();
     reached::print(&all.filter(|b| b.count() > 0).collect::<Vec<_>>());
-    true
+    if done == 0 {
+        println!("journal: nothing was compared");
+    }
+    done > 0
 }

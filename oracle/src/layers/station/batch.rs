@@ -1,8 +1,9 @@
 //! The same events in batches, on a station of their own: every answer is that of the call by itself.
 
 use super::count::reached::{BATCH_64, BATCH_MANY, BATCH_ONE, BATCH_REFUSED, BATCH_UNSOUND};
-use super::{identical, Call};
+use super::Call;
 use crate::compare::{agree, Difference};
+use crate::forms;
 use crate::hullathan::station as ours;
 use crate::hullathan::station::{Answer, Batch, Event, Station, MOST};
 use crate::random::Random;
@@ -21,10 +22,11 @@ const UNTOUCHED: Answer = Answer {
     left_len: 7,
 };
 
-/// Events that wait for the batch to be full, each with its answer.
+/// Events that wait for the batch to be full, each with its answer and whether that is a refusal.
+#[derive(Clone)]
 pub struct Batches {
     pub station: Station,
-    waiting: Vec<(Event, Answer)>,
+    waiting: Vec<(Event, Answer, bool)>,
     size: usize,
     events: u64,
 }
@@ -40,13 +42,13 @@ impl Batches {
     }
 
     /// An event and its answer; whether the batch is full. Its size is from 1 to 64.
-    pub fn push(&mut self, e: Event, a: Answer) -> bool {
+    pub fn push(&mut self, e: Event, a: Answer, refused: bool) -> bool {
         if self.waiting.is_empty() {
             let mut random = Random::new(self.events ^ u64::from(e.value.to_bits()));
             self.size = 1 + random.below(MOST as u64) as usize;
         }
         self.events += 1;
-        self.waiting.push((e, a));
+        self.waiting.push((e, a, refused));
         self.waiting.len() == self.size
     }
 
@@ -63,7 +65,7 @@ impl Batches {
             answers: [UNTOUCHED; MOST],
             ..Batch::new()
         };
-        for (place, (e, _)) in b.events.iter_mut().zip(&waiting) {
+        for (place, (e, ..)) in b.events.iter_mut().zip(&waiting) {
             *place = *e;
         }
         self.too_many(call, b)?;
@@ -81,11 +83,12 @@ impl Batches {
         for (i, (a, e)) in b.answers.iter().zip(expected).enumerate() {
             agree(call, &format!("the batch's answer {i}"), *a, e)?;
         }
-        let same = sound || identical(&before, &self.station);
-        agree(call, "refused: the station stays as it was", same, true)?;
+        let all = !sound || waiting.iter().all(|w| w.2);
+        let same = !all || forms::identical(&before, &self.station);
+        agree(call, "all refused: the station stays as it was", same, true)?;
         BATCH_ONE.when(sound && n == 1);
         BATCH_64.when(sound && n == MOST);
-        BATCH_REFUSED.when(sound && waiting.iter().any(|w| w.1.code > 128));
+        BATCH_REFUSED.when(sound && waiting.iter().any(|w| w.2));
         BATCH_UNSOUND.when(!sound);
         Ok(())
     }
@@ -103,7 +106,7 @@ impl Batches {
         agree(call, "the code of too long a batch", code, 129)?;
         let kept = (many.len, many.events) == (len, b.events)
             && many.answers.iter().all(|a| *a == UNTOUCHED)
-            && identical(&before, &self.station);
+            && forms::identical(&before, &self.station);
         agree(call, "too long a batch: nothing is changed", kept, true)?;
         BATCH_MANY.reached();
         Ok(())

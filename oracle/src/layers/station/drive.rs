@@ -13,6 +13,7 @@ pub enum Heard {
 }
 
 /// "A fresh tracker as primary and a fresh bank."
+#[derive(Clone)]
 pub struct Driven {
     pub primary: SpeedTracker,
     pub bank: TimingBank,

@@ -4,14 +4,17 @@
 mod batch;
 mod cases;
 mod count;
+#[cfg(test)]
+mod damaged;
 pub(crate) mod drive;
 
-use crate::compare::{agree, Difference, Layer};
-use crate::hullathan::bank::{Bank, Departure};
+use crate::compare::{agree, Difference, Follow, Layer};
+use crate::forms;
+use crate::hullathan::bank::Departure;
 use crate::hullathan::station as ours;
 use crate::hullathan::station::{Reading, Rival, Station};
 use crate::hullathan::Bit;
-use crate::layers::bank::{follow, state};
+use crate::layers::bank::{follow, same_left, state};
 use crate::layers::tracker;
 use crate::random::Random;
 use crate::refusals;
@@ -98,10 +101,17 @@ impl Answer {
         }
     }
 
-    /// "Only the order of departures within one answer is free."
-    fn sorted(mut self) -> Answer {
-        self.left.sort_by_key(|d| (d.serial, d.cause));
-        self
+    fn accepted(code: u8, left: Vec<Departure>) -> Answer {
+        Answer {
+            refused: false,
+            code,
+            left,
+        }
+    }
+
+    /// The byte that says all: a refusal is 128 and its number.
+    fn byte(&self) -> u8 {
+        self.code + if self.refused { 128 } else { 0 }
     }
 }
 
@@ -120,85 +130,122 @@ fn refusal(s: &Station, e: &Event) -> Result<(), u8> {
     }
 }
 
-/// Document 01's station over the Rust: its tracker and bank, and the books.
-struct Rust {
-    driven: Driven,
-    serial: u64,
-    serials: Vec<u64>,
-    started: u64,
-    counts: [u64; 5],
-    accepted: u64,
+/// The Rust's side: document 01's station over manta's tracker and bank, with its refusals before them and the books
+/// beside them, and the form that it stands for. What a script sets and what the Rust does make it; nothing of it comes
+/// from the library.
+#[derive(Clone)]
+pub struct Rust {
+    form: Station,
+    /// There is none while the form is unsound: every call is refused by 1.
+    driven: Option<Driven>,
+    /// Whether no station was handed in since the fresh one.
+    watch: bool,
 }
 
 impl Rust {
+    pub fn new() -> Rust {
+        Rust::fresh(1, false)
+    }
+
     fn fresh(width: usize, switching: bool) -> Rust {
+        let driven = Driven::fresh(width, switching);
+        let form = Station {
+            primary: tracker::plain(&driven.primary),
+            bank: state::plain(&driven.bank, &[], 0),
+            ..Station::default()
+        };
         Rust {
-            driven: Driven::fresh(width, switching),
-            serial: 0,
-            serials: Vec::new(),
-            started: 0,
-            counts: [0; 5],
-            accepted: 0,
+            form,
+            driven: Some(driven),
+            watch: true,
         }
     }
 
-    /// The same station; it is a sound one.
-    fn hand(s: &Station) -> Rust {
+    fn hand(form: Station) -> Rust {
+        let driven = || Driven {
+            primary: tracker::manta(&form.primary),
+            bank: state::manta(&form.bank),
+        };
         Rust {
-            driven: Driven {
-                primary: tracker::manta(&s.primary),
-                bank: state::manta(&s.bank),
+            form,
+            driven: refusals::station(&form).is_ok().then(driven),
+            watch: false,
+        }
+    }
+
+    /// The station in the library's form: as it was handed in, or as the last call that was not refused left it.
+    pub fn form(&self) -> &Station {
+        &self.form
+    }
+
+    pub fn step(&mut self, call: &Call) -> Answer {
+        match call {
+            Call::Event(e) => self.event(e),
+            Call::Fresh(width, switching) => match refusals::width(*width) {
+                Ok(()) => {
+                    *self = Rust::fresh(*width, *switching);
+                    Answer::accepted(0, Vec::new())
+                }
+                Err(code) => {
+                    *self = Rust::new();
+                    Answer::refused(code)
+                }
             },
-            serial: s.serial,
-            serials: refusals::serials(s)[1..].to_vec(),
-            started: s.bank.started,
-            counts: s.counts,
-            accepted: s.accepted,
+            Call::Hand(s) => {
+                *self = Rust::hand(**s);
+                Answer::accepted(0, Vec::new())
+            }
         }
     }
 
-    /// A call that is not refused; the bank as it was before it, in the library's form, has the serials.
-    fn call(&mut self, before: &Bank, e: &Event) -> Answer {
-        let (code, heard) = self.driven.event(e);
-        let Driven { primary, bank } = &mut self.driven;
+    fn event(&mut self, e: &Event) -> Answer {
+        if let Err(code) = refusal(&self.form, e) {
+            return Answer::refused(code);
+        }
+        let (before, form) = (self.form.bank, &mut self.form);
+        let driven = self.driven.as_mut().expect("a sound station");
+        let (code, heard) = driven.event(e);
+        let Driven { primary, bank } = driven;
         let left = match heard {
-            Heard::Mark(live) => follow::left_at_mark(before, bank, primary, e.number(), live),
-            Heard::Ready => follow::left_at_ready(before, bank),
-            Heard::Clear => follow::left_at_clear(before, bank),
+            Heard::Mark(live) => follow::left_at_mark(&before, bank, primary, e.number(), live),
+            Heard::Ready => follow::left_at_ready(&before, bank),
+            Heard::Clear => follow::left_at_clear(&before, bank),
             Heard::Nothing => Vec::new(),
         };
-        (self.serials, self.started) = follow::serials(before, bank);
+        let (mut serials, started) = follow::serials(&before, bank);
         follow::number(bank);
         if code == 2 {
             // "A serial travels with its tracker"
-            std::mem::swap(&mut self.serials[before.pending], &mut self.serial);
+            std::mem::swap(&mut serials[before.pending], &mut form.serial);
         }
         for d in &left {
-            self.counts[usize::from(d.cause)] += 1;
+            form.counts[usize::from(d.cause)] += 1;
         }
-        self.accepted += 1;
-        Answer {
-            refused: false,
-            code,
-            left,
-        }
+        form.accepted += 1;
+        form.primary = tracker::plain(primary);
+        form.bank = state::plain(bank, &serials, started);
+        Answer::accepted(code, left)
+    }
+}
+
+impl Default for Rust {
+    fn default() -> Rust {
+        Rust::new()
     }
 }
 
 /// What a host is shown of a station; of an unsound one a refusal by 1, and zeros.
-fn reading(rust: Option<&Rust>) -> Reading {
-    let Some(m) = rust else {
+fn reading(rust: &Rust) -> Reading {
+    let (Some(driven), books) = (&rust.driven, &rust.form) else {
         return Reading {
             code: 129,
             ..Reading::default()
         };
     };
-    let (p, b) = (&m.driven.primary, &m.driven.bank);
+    let (p, b) = (&driven.primary, &driven.bank);
+    let serials = state::serials(&books.bank);
     let mut rivals = [Rival::default(); 8];
-    for (place, (h, &serial)) in rivals
-        .iter_mut()
-        .zip(b.challengers().iter().zip(&m.serials))
-    {
+    for (place, (h, &serial)) in rivals.iter_mut().zip(b.challengers().iter().zip(&serials)) {
         *place = Rival {
             serial,
             dit_ms: h.tracker().mu_dit_ms(),
@@ -219,32 +266,29 @@ fn reading(rust: Option<&Rust>) -> Reading {
         wpm: p.wpm().unwrap_or(0.0),
         score: b.primary_score,
         gap_score: b.primary_gap_score,
-        serial: m.serial,
-        accepted: m.accepted,
+        serial: books.serial,
+        accepted: books.accepted,
         marks: b.marks_seen(),
         gaps: b.gaps_seen(),
-        started: m.started,
-        counts: m.counts,
+        started: books.bank.started,
+        counts: books.counts,
         challengers: b.challengers().len(),
         rivals,
     }
 }
 
-/// Whether two are the same bit for bit.
-fn identical(a: &Station, b: &Station) -> bool {
-    tracker::identical(&a.primary, &b.primary)
-        && state::identical(&a.bank, &b.bank)
-        && (a.serial, a.counts, a.accepted) == (b.serial, b.counts, b.accepted)
-}
-
 /// Both sides of a run.
+#[derive(Clone)]
 pub struct Both {
     pub ours: Station,
-    /// The Rust's; there is none while the station is unsound.
-    rust: Option<Rust>,
-    /// Whether no station was handed in since the fresh one.
-    pub watch: bool,
+    rust: Rust,
     batches: Batches,
+}
+
+impl Default for Both {
+    fn default() -> Both {
+        Both::new()
+    }
 }
 
 impl Both {
@@ -252,8 +296,7 @@ impl Both {
         let first = ours::fresh(1, false);
         Both {
             ours: first,
-            rust: Some(Rust::fresh(1, false)),
-            watch: true,
+            rust: Rust::new(),
             batches: Batches::new(first),
         }
     }
@@ -262,132 +305,92 @@ impl Both {
     /// host reads of it, and once a batch is full the same calls as a batch.
     pub fn step(&mut self, call: &Call) -> Result<Answer, Difference> {
         let answer = match call {
-            Call::Event(e) => self.event(e, call)?,
+            Call::Event(e) => {
+                let plain = e.plain();
+                let mut after = self.ours;
+                let back = ours::call(&mut after, e.kind, plain.live, plain.value);
+                let answer = self.hold(call, back, after)?;
+                if self.batches.push(plain, back, answer.refused) {
+                    self.flush(call)?;
+                }
+                answer
+            }
             Call::Fresh(width, switching) => {
                 self.flush(call)?;
-                self.fresh(*width, *switching, call)?
+                let mut after = self.ours;
+                let any = if *switching { 1 + *width as u8 } else { 0 };
+                let code = ours::start(&mut after, *width, any);
+                let answer = self.rust.step(call);
+                agree(call, "the code", code, answer.byte())?;
+                self.compare(&after, call)?;
+                self.lend(after);
+                answer
             }
-            Call::Hand(s) => {
+            Call::Hand(_) => {
                 self.flush(call)?;
-                self.ours = **s;
-                self.rust = refusals::station(s).is_ok().then(|| Rust::hand(s));
-                self.watch = false;
-                self.batches.station = self.ours;
-                Answer::refused(0)
+                let answer = self.rust.step(call);
+                self.lend(*self.rust.form());
+                answer
             }
-        };
-        self.read(call)?;
-        Ok(answer)
-    }
-
-    /// Runs the events that wait for their batch to be full: the station after it is the Rust's.
-    pub fn flush(&mut self, call: &Call) -> Result<(), Difference> {
-        if self.batches.is_empty() {
-            return Ok(());
-        }
-        self.batches.run(call, self.rust.is_some())?;
-        if self.rust.is_some() {
-            self.compare(&self.batches.station, call)?;
-        }
-        Ok(())
-    }
-
-    fn read(&self, call: &Call) -> Result<(), Difference> {
-        let (r, m) = (ours::read(&self.ours), reading(self.rust.as_ref()));
-        agree(call, "the reading", r, m)
-    }
-
-    fn fresh(&mut self, width: usize, switching: bool, call: &Call) -> Result<Answer, Difference> {
-        let any = if switching { 1 + width as u8 } else { 0 };
-        let code = ours::start(&mut self.ours, width, any);
-        let expected = refusals::width(width);
-        let number = expected.err().unwrap_or(0);
-        let full = if number > 0 { 128 + number } else { 0 };
-        agree(call, "the code", code, full)?;
-        self.rust = Some(match expected {
-            Ok(()) => Rust::fresh(width, switching),
-            Err(_) => Rust::fresh(1, false),
-        });
-        self.watch = true;
-        self.batches.station = self.ours;
-        self.compare(&self.ours, call)?;
-        Ok(Answer {
-            refused: number > 0,
-            code: number,
-            left: Vec::new(),
-        })
-    }
-
-    fn event(&mut self, e: &Event, call: &Call) -> Result<Answer, Difference> {
-        let (before, plain) = (self.ours, e.plain());
-        let back = ours::call(&mut self.ours, e.kind, plain.live, plain.value);
-        let answer = Answer {
-            refused: back.code >= 128,
-            code: back.code % 128,
-            left: back.left[..back.left_len.min(9)].to_vec(),
-        };
-        let beyond = &back.left[answer.left.len()..];
-        let zeros = beyond.iter().all(|d| *d == Departure::default());
-        agree(call, "zeros beyond those that left", zeros, true)?;
-        let expected = match (refusal(&before, e), &mut self.rust) {
-            (Err(code), _) => {
-                let kept = identical(&before, &self.ours);
-                agree(call, "refused: the station stays as it was", kept, true)?;
-                Answer::refused(code)
-            }
-            (Ok(()), rust) => rust
-                .as_mut()
-                .expect("a sound station")
-                .call(&before.bank, e),
         };
         agree(
             call,
-            "the answer",
-            answer.sorted(),
-            expected.clone().sorted(),
+            "the reading",
+            ours::read(&self.ours),
+            reading(&self.rust),
         )?;
-        let now = reading(self.rust.as_ref());
+        Ok(answer)
+    }
+
+    /// A station for the next call, and for the next batch.
+    fn lend(&mut self, s: Station) {
+        (self.ours, self.batches.station) = (s, s);
+    }
+
+    /// Runs the events that wait for their batch to be full: the station after it is the Rust's.
+    fn flush(&mut self, call: &Call) -> Result<(), Difference> {
+        if self.batches.is_empty() {
+            return Ok(());
+        }
+        self.batches.run(call, self.rust.driven.is_some())?;
+        self.compare(&self.batches.station, call)
+    }
+
+    /// What the library answers to an event and leaves in the station, held to the Rust's.
+    fn hold(
+        &mut self,
+        call: &Call,
+        back: ours::Answer,
+        after: Station,
+    ) -> Result<Answer, Difference> {
+        let expected = self.rust.step(call);
+        same_left(call, &back.left, back.left_len, &expected.left)?;
+        let now = reading(&self.rust);
         let shown = ours::Answer {
+            code: expected.byte(),
             dit_ms: now.dit_ms,
             dah_ms: now.dah_ms,
             serial: now.serial,
             challengers: now.challengers,
-            ..back
+            left: back.left,
+            left_len: expected.left.len(),
+            ..ours::Answer::default()
         };
-        agree(call, "the answer's numbers", back, shown)?;
-        if !expected.refused {
-            self.compare(&self.ours, call)?;
-        }
-        if self.batches.push(plain, back) {
-            self.flush(call)?;
-        }
+        agree(call, "the answer", back, shown)?;
+        self.compare(&after, call)?;
+        self.ours = after;
         Ok(expected)
     }
 
+    /// Whether a station is the Rust's, to the last byte: a refused call leaves what was lent, any other a form with
+    /// zeros where nothing is.
     fn compare(&self, s: &Station, call: &Call) -> Result<(), Difference> {
-        let m = self.rust.as_ref().expect("a sound station");
-        let serials = refusals::serials(s);
-        agree(call, "the primary's serial", serials[0], m.serial)?;
-        agree(call, "the serials", &serials[1..], &m.serials)?;
-        agree(call, "started", s.bank.started, m.started)?;
-        agree(call, "the counts", s.counts, m.counts)?;
-        agree(call, "the accepted calls", s.accepted, m.accepted)?;
-        let (p, b) = (&m.driven.primary, &m.driven.bank);
-        if tracker::same(&s.primary, p) && state::same(&s.bank, b) {
+        let form = self.rust.form();
+        if forms::identical(s, form) {
             return Ok(());
         }
-        let fits = refusals::station(s).is_ok();
-        agree(call, "the station is sound", fits, true)?;
-        let name = format!("{call:?}");
-        let primary = State::from(&tracker::manta(&s.primary));
-        states::compare(&name, &primary, &State::from(p))?;
-        states::compare(&name, &State::from(&state::manta(&s.bank)), &State::from(b))
-    }
-}
-
-impl Default for Both {
-    fn default() -> Both {
-        Both::new()
+        let (ours, theirs) = (State::from(s), State::from(form));
+        Err(states::unlike(&format!("{call:?}"), &ours, &theirs))
     }
 }
 
@@ -410,9 +413,10 @@ impl Layer for Stations {
         let mut both = Both::new();
         let mut calls = 0;
         for call in case {
-            let before = both.ours;
+            let before = *both.rust.form();
             let answer = both.step(call)?;
-            count::count(&before, &both.ours, both.watch, call, &answer);
+            let (after, watch) = (both.rust.form(), both.rust.watch);
+            count::count(&before, after, watch, call, &answer);
             calls += u64::from(!matches!(call, Call::Hand(_)));
         }
         if let Some(last) = case.last() {
@@ -427,6 +431,17 @@ impl Layer for Stations {
 
     fn reached() -> &'static [&'static crate::reached::Branch] {
         reached::ALL
+    }
+}
+
+impl Follow for Stations {
+    fn follow(case: &Vec<Call>) {
+        let mut rust = Rust::new();
+        for call in case {
+            let before = *rust.form();
+            let answer = rust.step(call);
+            count::count(&before, rust.form(), rust.watch, call, &answer);
+        }
     }
 }
 

@@ -2,8 +2,11 @@
 
 pub(crate) mod cases;
 mod count;
+#[cfg(test)]
+pub(crate) mod damaged;
 
-use crate::compare::{agree, Difference, Layer};
+use crate::compare::{agree, Difference, Follow, Layer};
+use crate::forms;
 use crate::hullathan::tracker as ours;
 use crate::hullathan::tracker::{RingEntry, SpeedTracker as Plain};
 use crate::hullathan::Bit;
@@ -240,82 +243,62 @@ pub fn manta(t: &Plain) -> SpeedTracker {
     m
 }
 
-pub fn same_float(a: f32, b: f32) -> bool {
-    a.to_bits() == b.to_bits()
-}
-
-pub fn same_floats<'a>(a: &[f32], b: impl ExactSizeIterator<Item = &'a f32>) -> bool {
-    a.len() == b.len() && a.iter().zip(b).all(|(&a, &b)| same_float(a, b))
-}
-
-pub fn same_option(has: Bit, x: f32, other: Option<f32>) -> bool {
-    match other {
-        Some(y) => has == Bit::YES && same_float(x, y),
-        None => has == Bit::NO,
-    }
-}
-
-/// Whether the library's tracker is the Rust's, in every part.
-pub fn same(t: &Plain, m: &SpeedTracker) -> bool {
-    let p = &t.pair;
+/// manta's tracker in the library's form: zeros beyond a count and in place of a number that is absent.
+pub fn plain(m: &SpeedTracker) -> Plain {
     let q = &m.pair;
-    same_float(p.lo, q.lo)
-        && same_float(p.hi, q.hi)
-        && p.init_len <= 12
-        && t.ring_len <= 12
-        && t.recent_len <= 5
-        && same_floats(&p.init[..p.init_len], q.init.iter())
-        && (p.ready, p.confirmed, p.placeholder_is_lo, p.lo_n)
-            == (
-                Bit::from(q.ready),
-                Bit::from(q.confirmed),
-                Bit::from(q.placeholder_is_lo),
-                q.lo_n,
-            )
-        && t.ring_len == m.ring.len()
-        && t.ring
-            .iter()
-            .zip(&m.ring)
-            .all(|(e, &(dur_ms, is_dit, pre_lo, pre_hi))| {
-                same_float(e.dur_ms, dur_ms)
-                    && e.assigned_dit == Bit::from(is_dit)
-                    && same_float(e.pre_lo, pre_lo)
-                    && same_float(e.pre_hi, pre_hi)
-            })
-        && same_option(t.has_wpm, t.wpm_ema, m.wpm_ema)
-        && same_floats(&t.recent[..t.recent_len], m.recent.iter())
-        && same_option(t.has_egap, t.mu_egap_ms, m.mu_egap_ms)
-        && same_option(t.has_hint, t.ratio_hint, m.ratio_hint)
-        && (t.regime, t.badlock_recovered, t.lo_uncorroborated)
-            == (
-                m.regime,
-                Bit::from(m.badlock_recovered),
-                Bit::from(m.lo_uncorroborated),
-            )
+    let mut t = Plain {
+        ring_len: m.ring.len(),
+        recent_len: m.recent.len(),
+        has_wpm: Bit::from(m.wpm_ema.is_some()),
+        wpm_ema: m.wpm_ema.unwrap_or(0.0),
+        has_egap: Bit::from(m.mu_egap_ms.is_some()),
+        mu_egap_ms: m.mu_egap_ms.unwrap_or(0.0),
+        has_hint: Bit::from(m.ratio_hint.is_some()),
+        ratio_hint: m.ratio_hint.unwrap_or(0.0),
+        regime: m.regime,
+        badlock_recovered: Bit::from(m.badlock_recovered),
+        lo_uncorroborated: Bit::from(m.lo_uncorroborated),
+        ..Plain::default()
+    };
+    let p = &mut t.pair;
+    (p.lo, p.hi, p.init_len, p.lo_n) = (q.lo, q.hi, q.init.len(), q.lo_n);
+    p.init[..q.init.len()].copy_from_slice(&q.init);
+    p.ready = Bit::from(q.ready);
+    p.confirmed = Bit::from(q.confirmed);
+    p.placeholder_is_lo = Bit::from(q.placeholder_is_lo);
+    for (i, &(dur_ms, is_dit, pre_lo, pre_hi)) in m.ring.iter().enumerate() {
+        let e = &mut t.ring[i];
+        (e.dur_ms, e.pre_lo, e.pre_hi) = (dur_ms, pre_lo, pre_hi);
+        e.assigned_dit = Bit::from(is_dit);
+    }
+    for (i, &d) in m.recent.iter().enumerate() {
+        t.recent[i] = d;
+    }
+    t
+}
+
+/// The form with zeros beyond each count and in place of each number that is absent: nothing else of it is a state's.
+fn cut(t: &Plain) -> Plain {
+    let mut c = *t;
+    let beyond = |n: usize, most: usize| n.min(most);
+    c.pair.init[beyond(t.pair.init_len, 12)..].fill(0.0);
+    c.ring[beyond(t.ring_len, 12)..].fill(RingEntry::default());
+    c.recent[beyond(t.recent_len, 5)..].fill(0.0);
+    for (has, x) in [
+        (t.has_wpm, &mut c.wpm_ema),
+        (t.has_egap, &mut c.mu_egap_ms),
+        (t.has_hint, &mut c.ratio_hint),
+    ] {
+        if has == Bit::NO {
+            *x = 0.0;
+        }
+    }
+    c
 }
 
 /// Whether two are the same bit for bit, places beyond a count and absent numbers too.
 pub fn identical(a: &Plain, b: &Plain) -> bool {
-    let (p, q) = (&a.pair, &b.pair);
-    let entry = |(e, f): (&RingEntry, &RingEntry)| {
-        same_float(e.dur_ms, f.dur_ms)
-            && e.assigned_dit == f.assigned_dit
-            && same_float(e.pre_lo, f.pre_lo)
-            && same_float(e.pre_hi, f.pre_hi)
-    };
-    same_float(p.lo, q.lo)
-        && same_float(p.hi, q.hi)
-        && same_floats(&p.init, q.init.iter())
-        && (p.init_len, p.ready, p.confirmed) == (q.init_len, q.ready, q.confirmed)
-        && (p.placeholder_is_lo, p.lo_n) == (q.placeholder_is_lo, q.lo_n)
-        && a.ring.iter().zip(&b.ring).all(entry)
-        && (a.ring_len, a.has_wpm, a.recent_len) == (b.ring_len, b.has_wpm, b.recent_len)
-        && same_float(a.wpm_ema, b.wpm_ema)
-        && same_floats(&a.recent, b.recent.iter())
-        && (a.has_egap, a.has_hint, a.regime) == (b.has_egap, b.has_hint, b.regime)
-        && same_float(a.mu_egap_ms, b.mu_egap_ms)
-        && same_float(a.ratio_hint, b.ratio_hint)
-        && (a.badlock_recovered, a.lo_uncorroborated) == (b.badlock_recovered, b.lo_uncorroborated)
+    forms::identical_numbers(a, b)
 }
 
 /// What the readings tell, in the order of the Rust's calls; each with the code.
@@ -323,8 +306,8 @@ pub fn identical(a: &Plain, b: &Plain) -> bool {
 pub struct Readings {
     pub codes: [u8; 8],
     pub ready: bool,
-    /// dit, dah, boundary, speed, gap, estimate, by their bits.
-    pub numbers: [Option<u32>; 6],
+    /// dit, dah, boundary, speed, gap, estimate: whether there is one, and its bits, 0 where there is none.
+    pub numbers: [(bool, u32); 6],
     pub regime: u32,
 }
 
@@ -342,28 +325,49 @@ pub struct Answer {
     pub told: Told,
 }
 
-/// manta's Rust, with document 01's refusals before it: what the library is compared with.
-pub enum Rust {
-    Fits(SpeedTracker),
-    /// A count above its capacity: manta has no such tracker, and every call is refused by 1.
-    Over(Plain),
+/// The Rust's side: manta's tracker with document 01's refusals before it, and the form that it stands for. What a
+/// script sets and what the Rust does make it; nothing of it comes from the library.
+#[derive(Debug, Clone)]
+pub struct Rust {
+    form: Plain,
+    /// There is none while the form is unsound: every call is refused by 1.
+    tracker: Option<SpeedTracker>,
 }
 
 impl Rust {
     pub fn new() -> Rust {
-        Rust::Fits(SpeedTracker::new())
+        Rust::hand(plain(&SpeedTracker::new()))
     }
 
-    pub fn hand(t: &Plain) -> Rust {
-        if t.pair.init_len > 12 || t.ring_len > 12 || t.recent_len > 5 {
-            Rust::Over(*t)
-        } else {
-            Rust::Fits(manta(t))
+    pub fn hand(form: Plain) -> Rust {
+        let sound = refusals::tracker(&form).is_ok();
+        let tracker = sound.then(|| manta(&form));
+        Rust { form, tracker }
+    }
+
+    /// The tracker in the library's form: as it was set, or as the last call that was not refused left it.
+    pub fn form(&self) -> &Plain {
+        &self.form
+    }
+
+    pub fn step(&mut self, call: &Call) -> Answer {
+        match call {
+            Call::Set(part, i, v) => {
+                let mut form = self.form;
+                set(&mut form, *part, *i, *v);
+                *self = Rust::hand(form);
+            }
+            Call::Hand(t) => *self = Rust::hand(t.0),
+            Call::Fresh => *self = Rust::new(),
+            _ => return self.call(call),
+        }
+        Answer {
+            code: 0,
+            told: Told::Nothing,
         }
     }
 
-    /// A call of a tracker whose parts are those of `state`.
-    pub fn call(&mut self, state: &Plain, call: &Call) -> Answer {
+    fn call(&mut self, call: &Call) -> Answer {
         let floats: Vec<f32>;
         let list = match call {
             Call::Resolve(gaps) => {
@@ -372,17 +376,30 @@ impl Rust {
             }
             _ => &[],
         };
-        match (refusal(state, call, list), self) {
-            (Err(code), _) => Answer {
+        if let Err(code) = refusal(&self.form, call, list) {
+            return Answer {
                 code,
                 told: refused(call),
-            },
-            (Ok(()), Rust::Fits(t)) => Answer {
-                code: 0,
-                told: told(t, call, list),
-            },
-            (Ok(()), Rust::Over(_)) => unreachable!("a count above its capacity is unsound"),
+            };
         }
+        let told = match call {
+            Call::Read => readings(self.sound()),
+            _ => self.change(|t| told(t, call, list)),
+        };
+        Answer { code: 0, told }
+    }
+
+    /// manta's tracker, where the form is sound.
+    pub fn sound(&self) -> &SpeedTracker {
+        self.tracker.as_ref().expect("a sound tracker")
+    }
+
+    /// The same, changed by a call.
+    pub fn change<A>(&mut self, call: impl FnOnce(&mut SpeedTracker) -> A) -> A {
+        let t = self.tracker.as_mut().expect("a sound tracker");
+        let answer = call(t);
+        self.form = plain(t);
+        answer
     }
 }
 
@@ -403,7 +420,7 @@ fn refused(call: &Call) -> Told {
         Call::Read => Told::Readings(Readings {
             codes: [1; 8],
             ready: false,
-            numbers: [None; 6],
+            numbers: [(false, 0); 6],
             regime: 0,
         }),
         _ => Told::Nothing,
@@ -421,32 +438,35 @@ fn told(t: &mut SpeedTracker, call: &Call, list: &[f32]) -> Told {
         Call::Finish => return Told::Flag(t.bootstrap()),
         Call::Take => return Told::Flag(t.take_badlock_recovered()),
         Call::Resolve(_) => return Told::Flag(t.resolve_unimodal_bootstrap(list)),
-        Call::Read => {
-            let bits = |x: f32| Some(x.to_bits());
-            return Told::Readings(Readings {
-                codes: [0; 8],
-                ready: t.ready(),
-                numbers: [
-                    bits(t.mu_dit_ms()),
-                    bits(t.mu_dah_ms()),
-                    bits(t.boundary_ms()),
-                    t.wpm().and_then(bits),
-                    t.mu_egap_ms().and_then(bits),
-                    bits(t.dit_estimate_ms()),
-                ],
-                regime: t.regime(),
-            });
-        }
-        Call::Set(..) | Call::Hand(_) | Call::Fresh => {}
+        Call::Read | Call::Set(..) | Call::Hand(_) | Call::Fresh => {}
     }
     Told::Nothing
+}
+
+fn readings(t: &SpeedTracker) -> Told {
+    let number = |x: Option<f32>| (x.is_some(), x.unwrap_or(0.0).to_bits());
+    Told::Readings(Readings {
+        codes: [0; 8],
+        ready: t.ready(),
+        numbers: [
+            Some(t.mu_dit_ms()),
+            Some(t.mu_dah_ms()),
+            Some(t.boundary_ms()),
+            t.wpm(),
+            t.mu_egap_ms(),
+            Some(t.dit_estimate_ms()),
+        ]
+        .map(number),
+        regime: t.regime(),
+    })
 }
 
 /// The library's answer, and the tracker that it hands back.
 fn library(t: Plain, call: &Call) -> (Answer, Plain) {
     let float = f32::from_bits;
-    let done = |r: ours::Told| (r.code, Told::Nothing, r.tracker);
-    let flagged = |r: ours::Flagged| (r.code, Told::Flag(r.yes), r.tracker);
+    // no field of an answer is left out
+    let done = |ours::Told { code, tracker }| (code, Told::Nothing, tracker);
+    let flagged = |ours::Flagged { code, yes, tracker }| (code, Told::Flag(yes), tracker);
     let (code, told, next) = match call {
         Call::Mark(d) => done(ours::on_mark(t, float(*d))),
         Call::Gap(d) => done(ours::on_element_gap(t, float(*d))),
@@ -460,7 +480,11 @@ fn library(t: Plain, call: &Call) -> (Answer, Plain) {
             flagged(ours::resolve_unimodal_bootstrap(t, &gaps))
         }
         Call::Read => {
-            let (ready, regime) = (ours::ready(t), ours::regime(t));
+            let ours::Flag { code: first, yes } = ours::ready(t);
+            let ours::Count {
+                code: second,
+                value,
+            } = ours::regime(t);
             let readers = [
                 ours::mu_dit_ms,
                 ours::mu_dah_ms,
@@ -470,16 +494,16 @@ fn library(t: Plain, call: &Call) -> (Answer, Plain) {
                 ours::dit_estimate_ms,
             ];
             let read = readers.map(|f| f(t));
-            let mut codes = [ready.code; 8];
-            codes[1] = regime.code;
+            let mut codes = [first, second, 0, 0, 0, 0, 0, 0];
             for (code, r) in codes[2..].iter_mut().zip(&read) {
                 *code = r.code;
             }
+            let number = |ours::Number { has, value, .. }| (has, value.to_bits());
             let r = Readings {
                 codes,
-                ready: ready.yes,
-                numbers: read.map(|r| r.has.then_some(r.value.to_bits())),
-                regime: regime.value,
+                ready: yes,
+                numbers: read.map(number),
+                regime: value,
             };
             (codes[0], Told::Readings(r), t)
         }
@@ -488,91 +512,55 @@ fn library(t: Plain, call: &Call) -> (Answer, Plain) {
     (Answer { code, told }, next)
 }
 
-/// Both sides of a run.
-pub struct Both {
-    pub ours: Plain,
-    pub rust: Rust,
+/// One call to both sides: the answers, and the whole tracker afterwards; after a refusal each bit of what was handed
+/// in. What is set is set on both sides.
+pub fn step(ours: &mut Plain, rust: &mut Rust, call: &Call) -> Result<Answer, Difference> {
+    if !matches!(call, Call::Set(..) | Call::Hand(_) | Call::Fresh) {
+        let (answer, next) = library(*ours, call);
+        return hold(ours, rust, call, (answer, next));
+    }
+    let answer = rust.step(call);
+    *ours = match call {
+        Call::Fresh => ours::new(),
+        _ => *rust.form(),
+    };
+    compare(ours, rust, call)?;
+    Ok(answer)
 }
 
-impl Both {
-    pub fn new() -> Both {
-        Both {
-            ours: ours::new(),
-            rust: Rust::new(),
-        }
+/// What the library answers to a call and hands back, held to the Rust's.
+fn hold(
+    ours: &mut Plain,
+    rust: &mut Rust,
+    call: &Call,
+    (answer, next): (Answer, Plain),
+) -> Result<Answer, Difference> {
+    let expected = rust.step(call);
+    agree(call, "the answer", answer, expected)?;
+    if expected.code != 0 && !identical(ours, &next) {
+        return Err(Difference {
+            call: format!("{call:?}, refused: the tracker is to be handed back as it was"),
+            hullathan: format!("{next:?}"),
+            rust: format!("{ours:?}"),
+        });
     }
-
-    /// One call to both sides: the answers, and the whole tracker afterwards; after a refusal each bit of what was handed in.
-    pub fn step(&mut self, call: &Call) -> Result<Answer, Difference> {
-        match call {
-            Call::Set(part, i, v) => set(&mut self.ours, *part, *i, *v),
-            Call::Hand(t) => self.ours = t.0,
-            Call::Fresh => self.ours = ours::new(),
-            _ => return self.call(call),
-        }
-        self.rust = match call {
-            Call::Fresh => Rust::new(),
-            _ => Rust::hand(&self.ours),
-        };
-        self.compare(call)?;
-        Ok(Answer {
-            code: 0,
-            told: Told::Nothing,
-        })
-    }
-
-    fn call(&mut self, call: &Call) -> Result<Answer, Difference> {
-        let before = self.ours;
-        let (ours, next) = library(before, call);
-        let theirs = self.rust.call(&before, call);
-        agree(call, "the answer", &ours, &theirs)?;
-        if ours.code != 0 && !identical(&before, &next) {
-            return Err(Difference {
-                call: format!("{call:?}, refused: the tracker is to be handed back as it was"),
-                hullathan: format!("{next:?}"),
-                rust: format!("{before:?}"),
-            });
-        }
-        self.ours = next;
-        self.compare(call)?;
-        Ok(ours)
-    }
-
-    /// The Rust's tracker, where the state is sound.
-    pub fn sound_mut(&mut self) -> &mut SpeedTracker {
-        match &mut self.rust {
-            Rust::Fits(t) => t,
-            Rust::Over(_) => unreachable!("a count above its capacity is unsound"),
-        }
-    }
-
-    /// Whether the two are the same now, after what the text says.
-    pub fn compare(&self, call: &dyn fmt::Debug) -> Result<(), Difference> {
-        match &self.rust {
-            Rust::Fits(m) if !same(&self.ours, m) => {
-                let ours = &self.ours;
-                if ours.pair.init_len > 12 || ours.ring_len > 12 || ours.recent_len > 5 {
-                    return Err(Difference {
-                        call: format!("{call:?}"),
-                        hullathan: format!("a count above its capacity: {ours:?}"),
-                        rust: format!("{m:?}"),
-                    });
-                }
-                states::compare(
-                    &format!("{call:?}"),
-                    &State::from(&manta(ours)),
-                    &State::from(m),
-                )
-            }
-            _ => Ok(()),
-        }
-    }
+    *ours = next;
+    compare(ours, rust, call)?;
+    Ok(expected)
 }
 
-impl Default for Both {
-    fn default() -> Both {
-        Both::new()
+/// Whether the library's tracker is the Rust's now, after what the text says. An unsound one is as it was set, to the
+/// last bit.
+pub fn compare(ours: &Plain, rust: &Rust, call: &dyn fmt::Debug) -> Result<(), Difference> {
+    let same = match rust.tracker {
+        Some(_) => identical(&cut(ours), &cut(&rust.form)),
+        None => identical(ours, &rust.form),
+    };
+    if same {
+        return Ok(());
     }
+    let (ours, theirs) = (State::from(ours), State::from(&rust.form));
+    Err(states::unlike(&format!("{call:?}"), &ours, &theirs))
 }
 
 impl Default for Rust {
@@ -597,12 +585,12 @@ impl Layer for Tracker {
     }
 
     fn run(case: &Vec<Call>) -> Result<u64, Difference> {
-        let mut both = Both::new();
+        let (mut ours, mut rust) = (ours::new(), Rust::new());
         let mut watch = count::Watch::default();
         for call in case {
-            let before = both.ours;
-            let answer = both.step(call)?;
-            watch.count(&before, &both.ours, call, answer);
+            let before = *rust.form();
+            let answer = step(&mut ours, &mut rust, call)?;
+            watch.count(&before, rust.form(), call, answer);
         }
         Ok(case.len() as u64)
     }
@@ -613,6 +601,18 @@ impl Layer for Tracker {
 
     fn reached() -> &'static [&'static crate::reached::Branch] {
         reached::ALL
+    }
+}
+
+impl Follow for Tracker {
+    fn follow(case: &Vec<Call>) {
+        let mut rust = Rust::new();
+        let mut watch = count::Watch::default();
+        for call in case {
+            let before = *rust.form();
+            let answer = rust.step(call);
+            watch.count(&before, rust.form(), call, answer);
+        }
     }
 }
 

@@ -16,7 +16,7 @@ observe-requires : tie.Need-observe-requires
 observe-requires c κs =
     let a = c .before .before .args in
     let w = unrefused (view (a .self)) (a .dur-ms .0) (a .dit-ms .0) (sym (c .before .observe-refusal .ensures) ∙ c .if1 .taken) in
-    (w .state, (w .duration, w .length))
+    (w .state, (w .duration, w .ofDit))
 
 returns : tie.Need-returns
 returns c =

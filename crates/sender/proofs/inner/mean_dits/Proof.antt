@@ -4,13 +4,13 @@ use mathlib.Core.Option.{Option}
 use borrow.Author.Needs.{needs}
 use Rattle.sender.specs.Model.{Class, viewClass}
 use Rattle.sender.specs.Steps.{meanOf}
-use Rattle.sender.specs.Answers.{Answer, length, optional}
+use Rattle.sender.specs.Answers.{Answer, inDits, optional}
 use Rattle.sender.proofs.Views.{none-at, some-at, at-view}
 use Rattle.sender.proofs.inner.mean_dits.Statement.{statement}
 use Rattle.sender.proofs.inner.mean_dits.Tie as tie
 
 abbrev said : Option Class → Answer
-said o = optional length (meanOf o)
+said o = optional inDits (meanOf o)
 
 stats-requires : tie.Need-stats-requires
 stats-requires c κs = search needs

@@ -18,7 +18,7 @@ relock-requires : tie.Need-relock-requires
 relock-requires c κs =
     let s = c .before .before in
     let h = s .pre .counted .recent in
-    (s .pre .counted, ((some-count _ _ (s .pre .drivable .some), omega arith), rw (wider _ _ (s .args .t .«recent_len») (c .widened .ensures) h) (durations-in _ (s .pre .drivable .recent))))
+    (s .pre .counted, ((some-count _ _ (s .pre .drivable .held), omega arith), rw (wider _ _ (s .args .t .«recent_len») (c .widened .ensures) h) (durations-in _ (s .pre .drivable .recent))))
 
 returns : tie.Need-returns
 returns c =

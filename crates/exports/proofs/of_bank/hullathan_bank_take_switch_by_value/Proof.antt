@@ -1,4 +1,4 @@
--- `exports::of_bank::hullathan_bank_take_switch` hands on what the call says. Assumes nothing.
+-- `exports::of_bank::hullathan_bank_take_switch_by_value` hands on what the call says. Assumes nothing.
 use mathlib.Core.Path.{sym, _∙_}
 use Rattle.ranges.specs.Settings.{standard}
 use Rattle.tracker.specs.Model as Tracked
@@ -8,8 +8,8 @@ use Rattle.bank.specs.View.{view}
 use Rattle.bank.specs.Answers.{switchRefusal}
 use Rattle.exports.proofs.Rivals.{switched-by, switches-not}
 use borrow.Author.Needs.{needs}
-use Rattle.exports.proofs.of_bank.hullathan_bank_take_switch.Statement.{statement}
-use Rattle.exports.proofs.of_bank.hullathan_bank_take_switch.Tie as tie
+use Rattle.exports.proofs.of_bank.hullathan_bank_take_switch_by_value.Statement.{statement}
+use Rattle.exports.proofs.of_bank.hullathan_bank_take_switch_by_value.Tie as tie
 
 bank-of-requires : tie.Need-bank-of-requires
 bank-of-requires c κs = search needs
@@ -32,6 +32,6 @@ returns-2 c =
     let u = c .before .bank-of in
     switches-not (a .b) (sym (u .ensures .0) ∙ c .if1 .left) _ _ _ _
 
-pub hullathan-bank-take-switch-spec : {M : Type 1} → statement M
-hullathan-bank-take-switch-spec =
+pub hullathan-bank-take-switch-by-value-spec : {M : Type 1} → statement M
+hullathan-bank-take-switch-by-value-spec =
     tie.close (tie.spec bank-of-requires take-switch-requires switched-requires returns returns-2)

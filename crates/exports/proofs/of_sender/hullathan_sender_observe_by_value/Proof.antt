@@ -1,12 +1,12 @@
--- `exports::of_sender::hullathan_sender_observe` hands on what the call says. Assumes nothing.
+-- `exports::of_sender::hullathan_sender_observe_by_value` hands on what the call says. Assumes nothing.
 use mathlib.Core.Path.{refl, sym, ap, subst, _∙_}
 use mathlib.Core.Option.{Option}
 use Rattle.sender.specs.declared.TimingClass.{TimingClass}
 use Rattle.sender.specs.Model.{view}
 use Rattle.exports.specs.Sender.{code, observeSaid, LeftAt, ofNamed}
 use borrow.Author.Needs.{needs}
-use Rattle.exports.proofs.of_sender.hullathan_sender_observe.Statement.{statement}
-use Rattle.exports.proofs.of_sender.hullathan_sender_observe.Tie as tie
+use Rattle.exports.proofs.of_sender.hullathan_sender_observe_by_value.Statement.{statement}
+use Rattle.exports.proofs.of_sender.hullathan_sender_observe_by_value.Tie as tie
 
 class-named-requires : tie.Need-class-named-requires
 class-named-requires c κs = search needs
@@ -40,8 +40,8 @@ returns-2 c =
       subst (λ (k : Option TimingClass). LeftAt k (a .dur-ms) (a .dit-ms) (a .t) (a .t)) e refl,
     )
 
-pub hullathan-sender-observe-spec : {M : Type 1} → statement M
-hullathan-sender-observe-spec =
+pub hullathan-sender-observe-by-value-spec : {M : Type 1} → statement M
+hullathan-sender-observe-by-value-spec =
     tie.close
     (tie.spec
     class-named-requires
