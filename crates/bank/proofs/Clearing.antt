@@ -85,21 +85,34 @@ pub clear-by : (b : Bank) (w : Bool) → leb 2 (b .width) ≡ w → by b w ≡ c
 unfolding clear
 clear-by b w e = ap (by b) (sym e)
 
-module _ (b : TimingBank) (s : Sturdy b) (left : List Departure) (e : left ≡ padded mostLeft (map goneCleared (view b .challengers))) where
+module _ (b : TimingBank) (s : Sturdy b) (left : List Departure)
+    (e : left ≡ padded mostLeft (map goneCleared (view b .challengers))) where
   abbrev gone : List Departure
   gone = map goneCleared (view b .challengers)
 
   many : b .«challengers_len» ≡ length gone
-  many = sym (length-map (view b .challengers) goneCleared ∙ view-length viewHyp (b .«challengers_len») (b .challengers) (room (b .«challengers_len») (b .challengers) (s .steady .crew)))
+  many =
+      sym (length-map (view b .challengers) goneCleared
+      ∙ view-length viewHyp (b .«challengers_len») (b .challengers)
+      (room (b .«challengers_len») (b .challengers) (s .steady .crew)))
 
   few : length gone ≤ mostLeft
   few = let k = crew-few b (s .steady) in let m = many in omega arith
 
-  told-cleared : leb 2 (b .width) ≡ true → told (record { bank = blank b; left = left; «left_len» = b .«challengers_len» }) ≡ clear (view b)
+  told-cleared : leb 2 (b .width) ≡ true → told
+      (record { bank = blank b; left = left; «left_len» = b .«challengers_len» }) ≡ clear (view b)
   told-cleared w =
       ap (λ (m : Bank). record { bank = m; left = take (b .«challengers_len») left }) (blank-view b)
-      ∙ ap (λ (l : List Departure). record { bank = clearedOut (view b); left = l }) (those left (b .«challengers_len») gone e many few)
+      ∙ ap (λ (l : List Departure). record { bank = clearedOut (view b); left = l })
+      (those left (b .«challengers_len») gone e many few)
       ∙ clear-by (view b) true w
 
-  pub cleared-left : leb 2 (b .width) ≡ true → Left (record { bank = blank b; left = left; «left_len» = b .«challengers_len» }) (clear (view b))
-  cleared-left w = record { is = told-cleared w; sturdy = blank-sturdy b s; listed = all-listed left (b .«challengers_len») gone e many few }
+  pub cleared-left : leb 2 (b .width) ≡ true → Left
+      (record { bank = blank b; left = left; «left_len» = b .«challengers_len» }) (clear (view b))
+  cleared-left w =
+      record {
+        is = told-cleared w;
+        sturdy = blank-sturdy b s;
+        listed = all-listed left
+            (b .«challengers_len») gone e many few;
+      }

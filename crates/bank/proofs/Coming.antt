@@ -77,7 +77,8 @@ module _ (b : TimingBank) (s : Sturdy b) where
       }
 
   pub push-left : (h : TimingHypothesis) (m : ℕ) (r : Changed) → Fit h → m ≡ following (b .started) → b .«challengers_len» + 1 < b .width
-      → r ≡ untouched (enrolled b (set (b .challengers) (b .«challengers_len») h) (b .«challengers_len» + 1) m) → Left r (pushed (view b) (viewHyp h))
+      → r ≡ untouched (enrolled b (set (b .challengers) (b .«challengers_len») h) (b .«challengers_len» + 1) m)
+      → Left r (pushed (view b) (viewHyp h))
   push-left h m r f em lt e =
       let n = b .«challengers_len» in
       let l = b .challengers in
@@ -94,13 +95,15 @@ module _ (b : TimingBank) (s : Sturdy b) where
         listed = u .listed;
       }
 
-  pub replace-left : (h z : TimingHypothesis) (i m : ℕ) (q : Float) (left : List Departure) → Fit h → m ≡ following (b .started) → i < b .«challengers_len» → left ≡ padded mostLeft []
+  pub replace-left : (h z : TimingHypothesis) (i m : ℕ) (q : Float) (left : List Departure) → Fit h
+      → m ≡ following (b .started) → i < b .«challengers_len» → left ≡ padded mostLeft []
       → Left (record { bank = enrolled b (set (b .challengers) i h) (b .«challengers_len») m; left = set left 0 (record { serial = getD (b .challengers) i z .serial; cause = Replaced }); «left_len» = 1 }) (replacing (view b) (viewHyp h) (place (Found i q)))
   replace-left h z i m q left f em lt r =
       let n = b .«challengers_len» in
       let l = b .challengers in
       let d : Departure = record { serial = getD l i z .serial; cause = Replaced } in
-      let put : set left 0 d ≡ padded mostLeft (d ∷ []) = ap (λ (x : List Departure). set x 0 d) r ∙ pad-put mostLeft [] d (omega arith) in
+      let put : set left 0 d ≡ padded mostLeft (d ∷ []) = ap (λ (x : List Departure). set x 0 d) r
+      ∙ pad-put mostLeft [] d (omega arith) in
       let w = s .steady .crew in
       let v = view-length viewHyp n l (room n l w) in
       let found : getElem? (viewAll n l) i ≡ some (viewHyp (getD l i z)) = elem (viewAll n l) i (viewHyp z) (omega arith) ∙ ap some (view-at viewHyp n l i z lt) in
@@ -108,7 +111,11 @@ module _ (b : TimingBank) (s : Sturdy b) where
         is =
             ap (λ (x : ℕ). record { bank = view (enrolled b (set l i h) n x); left = take 1 (set left 0 d) }) em
             ∙ ap (λ (x : List Hyp). record { bank = withNew (view b) x; left = take 1 (set left 0 d) }) (ap (map viewHyp) (take-set-lt n l i h lt) ∙ map-set viewHyp (take n l) i h)
-            ∙ ap (λ (x : List Departure). record { bank = withNew (view b) (set (viewAll n l) i (viewHyp h)); left = x }) (those (set left 0 d) 1 (d ∷ []) put refl (omega arith))
+            ∙ ap (λ (x : List Departure). record {
+              bank = withNew (view b)
+                  (set (viewAll n l) i (viewHyp h));
+              left = x;
+            }) (those (set left 0 d) 1 (d ∷ []) put refl (omega arith))
             ∙ ap (replacedBy (view b) (viewHyp h) i) (sym found);
         sturdy = enrolled-sturdy (set l i h) n m (crew-set n l i h f w) (s .steady .below) (omega arith);
         listed = all-listed (set left 0 d) 1 (d ∷ []) put refl (omega arith);

@@ -154,14 +154,17 @@ module _ (b c : TimingBank) (p : Tracker) (lo hi d : Float) (live : Bool) (ec : 
       ∙ ap (λ (z : Bool). by z (scored standard (view b) p d live)) (sym e)
 
 -- those that leave at a mark find their places
-pub few-marked : (b : TimingBank) → Sturdy b → (p : SpeedTracker) (lo hi d : Float) (live : Bool) (t : Changed) → lo ≡ lnDit (Tracked.view p) → hi ≡ lnDah (Tracked.view p)
-    → told t ≡ markedTold standard (view b) (Tracked.view p) d live → length (andThen (told t) (prunedAt standard lo hi) .left) ≤ mostLeft
+pub few-marked : (b : TimingBank) → Sturdy b → (p : SpeedTracker) (lo hi d : Float) (live : Bool) (t : Changed)
+    → lo ≡ lnDit (Tracked.view p) → hi ≡ lnDah (Tracked.view p)
+    → told t ≡ markedTold standard (view b) (Tracked.view p) d live
+    → length (andThen (told t) (prunedAt standard lo hi) .left) ≤ mostLeft
 few-marked b s p lo hi d live t el eh et =
     let q = Tracked.view p in
     let n = few-heard standard standard-good (view b) (s .steady .score) q d live in
     let k = crew-few b (s .steady) in
     let m = sift-many b (s .steady) in
-    let e : andThen (told t) (prunedAt standard lo hi) ≡ andThen (markedTold standard (view b) q d live) (prunedAt standard (lnDit q) (lnDah q)) =
+    let e : andThen (told t) (prunedAt standard lo hi) ≡ andThen (markedTold standard (view b) q d live)
+    (prunedAt standard (lnDit q) (lnDah q)) =
     ap (λ (x : Told). andThen x (prunedAt standard lo hi)) et
     ∙ ap (λ (z : Float). andThen (markedTold standard (view b) q d live) (prunedAt standard z hi)) el
     ∙ ap (λ (z : Float). andThen (markedTold standard (view b) q d live) (prunedAt standard (lnDit q) z)) eh in

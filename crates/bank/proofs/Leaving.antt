@@ -91,7 +91,8 @@ none-found q = refl
 
 -- ---- how many of the first i leave
 module _ (f : Hyp → Option Cause) where
-  some-leave : (o : Option Cause) (h : Hyp) (a b : List Departure) → length a ≤ length b → length (leaveIf o h a) ≤ length (leaveIf o h b)
+  some-leave : (o : Option Cause) (h : Hyp) (a b : List Departure) → length a ≤ length b
+      → length (leaveIf o h a) ≤ length (leaveIf o h b)
   some-leave none h a b e = e
   some-leave (some c) h a b e = omega arith
 
@@ -105,7 +106,8 @@ module _ (f : Hyp → Option Cause) where
   one-leaves none h e = absurd (true≢false e)
   one-leaves (some c) h e = refl
 
-  pub room-to-leave : (l : List Hyp) (i : ℕ) (z x : Hyp) → i < length l → getD l i z ≡ x → isNone (f x) ≡ false → length (leaving f (take i l)) + 1 ≤ length (leaving f l)
+  pub room-to-leave : (l : List Hyp) (i : ℕ) (z x : Hyp) → i < length l → getD l i z ≡ x → isNone (f x) ≡ false
+      → length (leaving f (take i l)) + 1 ≤ length (leaving f l)
   room-to-leave l i z x h e n =
       let a = ap length (leave-next f l i z x h e) in
       let b = length-append (leaving f (take i l)) (leaveIf (f x) x []) in
@@ -133,7 +135,8 @@ module _ (f : Hyp → Option Cause) (u : Hyp → Hyp) (q : Hyp → Bool) (crowd 
   no-more : take g₀ gone₀ ++ leaving f (take 0 crowd) ≡ take g₀ gone₀
   no-more = ap (λ (l : List Departure). take g₀ gone₀ ++ l) (none-leave f) ∙ append-nil (take g₀ gone₀)
 
-  pub sift-begins : length crowd ≡ b .«challengers_len» → Steady b → Listed gone₀ g₀ → length (take g₀ gone₀ ++ leaving f crowd) ≤ mostLeft → Sifting b gone₀ g₀ Unfound 0 0
+  pub sift-begins : length crowd ≡ b .«challengers_len» → Steady b → Listed gone₀ g₀
+      → length (take g₀ gone₀ ++ leaving f crowd) ≤ mostLeft → Sifting b gone₀ g₀ Unfound 0 0
   sift-begins y s k r = record {
     upto = omega arith;
     behind = omega arith;
@@ -208,7 +211,9 @@ module _ (f : Hyp → Option Cause) (u : Hyp → Hyp) (q : Hyp → Bool) (crowd 
             let s : List Hyp = staying f (take i crowd) in
             let as-many : take g₀ gone₀ ++ leaving f (take i crowd) ≡ take g₀ gone₀ ++ leaving f (take (i + 1) crowd) =
             ap (λ (l : List Departure). take g₀ gone₀ ++ l)
-            (sym (append-nil (leaving f (take i crowd))) ∙ ap (λ (x : Option Cause). leaving f (take i crowd) ++ leaveIf x (viewHyp it) []) (sym none-is) ∙ sym (leave-next f crowd i o (viewHyp it) size seen)) in
+            (sym (append-nil (leaving f (take i crowd)))
+            ∙ ap (λ (x : Option Cause). leaving f (take i crowd) ++ leaveIf x (viewHyp it) []) (sym none-is)
+            ∙ sym (leave-next f crowd i o (viewHyp it) size seen)) in
             record {
               upto = omega arith;
               behind = omega arith;
@@ -246,7 +251,8 @@ module _ (f : Hyp → Option Cause) (u : Hyp → Hyp) (q : Hyp → Bool) (crowd 
           let one-more : were ++ (d ∷ []) ≡ take g₀ gone₀ ++ leaving f (take (i + 1) crowd) =
           append-assoc (take g₀ gone₀) (leaving f (take i crowd)) (d ∷ [])
           ∙ ap (λ (r : List Departure). take g₀ gone₀ ++ r)
-          (ap (λ (o : Option Cause). leaving f (take i crowd) ++ leaveIf o (viewHyp it) []) e ∙ sym (leave-next f crowd i o (viewHyp it) size seen)) in
+          (ap (λ (o : Option Cause). leaving f (take i crowd) ++ leaveIf o (viewHyp it) []) e
+          ∙ sym (leave-next f crowd i o (viewHyp it) size seen)) in
           record {
             upto = omega arith;
             behind = let a = k .behind in omega arith;
@@ -283,7 +289,8 @@ crew-few b s =
     omega arith
 
 -- as many as there are challengers may leave
-pub few-heard : (f : Hyp → Option Cause) (b : TimingBank) (crowd : List Hyp) → Steady b → length crowd ≡ b .«challengers_len» → length (leaving f crowd) ≤ mostLeft
+pub few-heard : (f : Hyp → Option Cause) (b : TimingBank) (crowd : List Hyp) → Steady b
+    → length crowd ≡ b .«challengers_len» → length (leaving f crowd) ≤ mostLeft
 few-heard f b crowd s e =
     let n = few-leaving f crowd in
     let k = crew-few b s in
@@ -319,7 +326,8 @@ module _ (f : Hyp → Option Cause) (u : Hyp → Hyp) (q : Hyp → Bool) (b : Ti
     keeps-heard = sift-keeps f u q (map m (view b .challengers)) b gone₀ g₀ c gone g best w i z k h n (m (viewHyp z)) heard
 
     pub room-heard : isNone (f (viewHyp n)) ≡ false → (g < mostLeft) × (length gone ≡ mostLeft)
-    room-heard = sift-room f u q (map m (view b .challengers)) b gone₀ g₀ c gone g best w i z k h n (m (viewHyp z)) heard
+    room-heard =
+        sift-room f u q (map m (view b .challengers)) b gone₀ g₀ c gone g best w i z k h n (m (viewHyp z)) heard
 
     pub drops-heard : (y : Departure) → (y .serial ≡ n .serial) × (some (y .cause) ≡ f (viewHyp n)) → Sifting f u q (map m (view b .challengers)) b gone₀ g₀ c (set gone g y) (g + 1) best w (i + 1)
     drops-heard y e =
@@ -419,9 +427,18 @@ module _ (lo hi : Float) (crowd : List Hyp) (t : Changed) (c : TimingBank) (gone
   unfolding prunedAt qualified
   sift-told n =
       ap (λ (x : TimingBank). told (record { bank = counted x w (isFound best) (placeOr n best); left = gone; «left_len» = g })) (k .same)
-      ∙ ap (λ (l : List Hyp). record { bank = withChoice (view b) l (given (isFound best) (placeOr n best)); left = take g gone }) they
-      ∙ ap (λ (o : Option ℕ). record { bank = withChoice (view b) kept o; left = take g gone }) (given-place best n ∙ ap place (k .choice ∙ ap (highestFrom q 0 Unfound) they))
-      ∙ ap (λ (l : List Departure). record { bank = withChoice (view b) kept (place (highestFrom q 0 Unfound kept)); left = l })
+      ∙ ap (λ (l : List Hyp). record {
+        bank = withChoice (view b) l
+            (given (isFound best) (placeOr n best));
+        left = take g gone;
+      }) they
+      ∙ ap (λ (o : Option ℕ). record { bank = withChoice (view b) kept o; left = take g gone })
+      (given-place best n ∙ ap place (k .choice ∙ ap (highestFrom q 0 Unfound) they))
+      ∙ ap (λ (l : List Departure). record {
+        bank = withChoice (view b) kept
+            (place (highestFrom q 0 Unfound kept));
+        left = l;
+      })
       (those gone g all-gone gone-is gone-many (k .space))
 
   sift-before : Before w best
@@ -457,7 +474,13 @@ module _ (lo hi : Float) (crowd : List Hyp) (t : Changed) (c : TimingBank) (gone
       })
 
   ended : (n : ℕ) → Left (out n) (leading standard (andThen met (prunedAt standard lo hi)))
-  ended n = record { is = sift-told n; sturdy = sift-sturdy n; listed = all-listed gone g all-gone gone-is gone-many (k .space) }
+  ended n =
+      record {
+        is = sift-told n;
+        sturdy = sift-sturdy n;
+        listed = all-listed gone g all-gone gone-is gone-many
+            (k .space);
+      }
 
   abbrev Ends : Bool → ℕ → Type 0
   Ends has j = Left (record { bank = counted c w has j; left = gone; «left_len» = g }) (leading standard (andThen met (prunedAt standard lo hi)))
@@ -499,7 +522,8 @@ module _ (n : ℕ) (l : List TimingHypothesis) where
             ∙ ap (map goneCleared) (sym (next (viewAll n l) i (viewHyp z) (omega arith))));
       }
 
-  pub note-ends : (left : List Departure) (i : ℕ) → n ≤ i → Noting left i → left ≡ padded mostLeft (map goneCleared (viewAll n l))
+  pub note-ends : (left : List Departure) (i : ℕ) → n ≤ i → Noting left i
+      → left ≡ padded mostLeft (map goneCleared (viewAll n l))
   note-ends left i h k =
       let v = view-length viewHyp n l (room n l (k .crew)) in
       k .is ∙ ap (λ (x : List Hyp). padded mostLeft (map goneCleared x)) (take-all i (viewAll n l) (omega arith))

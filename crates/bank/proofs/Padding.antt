@@ -18,7 +18,8 @@ pad-length (suc n) [] = ap suc (pad-length n [])
 pad-length (suc n) (d ∷ l) = ap suc (pad-length n l)
 
 -- one more is noted behind those of the list
-pub pad-put : (n : ℕ) (l : List Departure) (d : Departure) → length l < n → set (padded n l) (length l) d ≡ padded n (l ++ (d ∷ []))
+pub pad-put : (n : ℕ) (l : List Departure) (d : Departure) → length l < n
+    → set (padded n l) (length l) d ≡ padded n (l ++ (d ∷ []))
 unfolding padded
 pad-put zero l d h = absurd (omega arith)
 pad-put (suc n) [] d h = refl
@@ -30,7 +31,8 @@ pad-take n [] h = refl
 pad-take zero (x ∷ l) h = absurd (omega arith)
 pad-take (suc n) (x ∷ l) h = ap (λ (r : List Departure). x ∷ r) (pad-take n l (omega arith))
 
-module _ (left : List Departure) (n : ℕ) (l : List Departure) (e : left ≡ padded mostLeft l) (m : n ≡ length l) (h : length l ≤ mostLeft) where
+module _ (left : List Departure) (n : ℕ) (l : List Departure) (e : left ≡ padded mostLeft l) (m : n ≡ length l)
+    (h : length l ≤ mostLeft) where
   pub those : take n left ≡ l
   those =
       ap (λ (j : ℕ). take j left) m ∙ ap (take (length l)) e ∙ pad-take mostLeft l h

@@ -1,4 +1,5 @@
--- How many leave in one call: never more than the challengers that the bank had, under every good settings record. Assumes nothing.
+-- How many leave in one call: never more than the challengers that the bank had, under every good settings record.
+-- Assumes nothing.
 use mathlib.Core.Path.{_≡_, refl, ap, sym, _∙_, subst}
 use mathlib.Core.Bool.{Bool, true, false, not, cond, _||_, true≢false}
 use mathlib.Core.List.{List, [], _∷_, _++_, map}
@@ -59,7 +60,8 @@ no-cause true o e = refl
 no-cause false o e = e
 
 -- it has the primary's own score, is no twin of the primary, and is of age 0
-pub newborn-stays : (k : Settings) → Good k → (b : Bank) (lo hi : Float) (o : Origin) (t : Tracker) → In scoreMin nought (b .score)
+pub newborn-stays : (k : Settings) → Good k → (b : Bank) (lo hi : Float) (o : Origin) (t : Tracker)
+    → In scoreMin nought (b .score)
     → twins (lnDit t) (lnDah t) lo hi ≡ false → causeAt k (b .score) lo hi (newborn b t o) ≡ none
 unfolding causeAt
 newborn-stays k g b lo hi o t i e = rw e (rw (level k (b .score) (g .pruneIn) i) (no-cause (retained o) none refl))
@@ -99,7 +101,8 @@ module _ (f : Hyp → Option Cause) where
         let b = few-pushed l in
         omega arith
 
-    few-replaced : (l : List Hyp) (i : ℕ) (v : Hyp) → getElem? l i ≡ some v → 1 + length (leaving f (set l i x)) ≤ length l
+    few-replaced : (l : List Hyp) (i : ℕ) (v : Hyp) → getElem? l i ≡ some v
+        → 1 + length (leaving f (set l i x)) ≤ length l
     unfolding leaving
     few-replaced [] i v q = absurd (nothing-there q)
     few-replaced (h ∷ l) zero v q =
@@ -130,10 +133,12 @@ module _ (k : Settings) (lo hi : Float) where
     unfolding prunedAt
     push-few = few-pushed (causeAt k (b .score) lo hi) h e (b .challengers)
 
-    replace-few : (i : ℕ) (o : Option Hyp) → getElem? (b .challengers) i ≡ o → Few (length (b .challengers)) k lo hi (replacedBy b h i o)
+    replace-few : (i : ℕ) (o : Option Hyp) → getElem? (b .challengers) i ≡ o
+        → Few (length (b .challengers)) k lo hi (replacedBy b h i o)
     unfolding prunedAt
     replace-few i none q = few-stay b
-    replace-few i (some v) q = let a = few-replaced (causeAt k (b .score) lo hi) h e (b .challengers) i v q in omega arith
+    replace-few i (some v) q =
+        let a = few-replaced (causeAt k (b .score) lo hi) h e (b .challengers) i v q in omega arith
 
     place-few : (o : Option ℕ) → Few (length (b .challengers)) k lo hi (replacing b h o)
     place-few none = few-stay b
@@ -145,7 +150,8 @@ module _ (k : Settings) (lo hi : Float) where
     spawn-few o t =
         by-cond P (duplicateAt b lo hi t) (stay b) _ (λ e. few-stay b) (λ e.
         let c = newborn-stays k g b lo hi o t i (first-false _ _ e) in
-        by-cond P (roomy b) _ _ (λ r. push-few b (newborn b t o) c) (λ r. place-few b (newborn b t o) c (victim (b .challengers))))
+        by-cond P (roomy b) _ _ (λ r. push-few b (newborn b t o) c)
+        (λ r. place-few b (newborn b t o) c (victim (b .challengers))))
       where
         P : Told → Type 0
         P = Few (length (b .challengers)) k lo hi
@@ -161,7 +167,8 @@ module _ (k : Settings) (lo hi : Float) where
 -- ---- the calls
 
 module _ (k : Settings) (g : Good k) (b : Bank) (i : In scoreMin nought (b .score)) where
-  streak-few : (lo hi : Float) (side : Bool) (d : Float) (gap : Option Float) → Few (length (b .challengers)) k lo hi (streakAt k b lo hi side d gap)
+  streak-few : (lo hi : Float) (side : Bool) (d : Float) (gap : Option Float)
+      → Few (length (b .challengers)) k lo hi (streakAt k b lo hi side d gap)
   unfolding streakAt
   streak-few lo hi side d gap =
       by-cond (Few (length (b .challengers)) k lo hi) (short (streakOn (b .evidence) side d gap)) _ _
@@ -170,14 +177,16 @@ module _ (k : Settings) (g : Good k) (b : Bank) (i : In scoreMin nought (b .scor
       (candidateAt k lo hi (streakOn (b .evidence) side d gap)))
 
 -- at a mark at most as many leave as there were challengers before it, one that is replaced counted
-module _ (k : Settings) (g : Good k) (b : Bank) (i : In scoreMin nought (b .score)) (p : Tracker) (d : Float) (live : Bool) where
+module _ (k : Settings) (g : Good k) (b : Bank) (i : In scoreMin nought (b .score)) (p : Tracker) (d : Float)
+    (live : Bool) where
   abbrev after : Bank
   after = scored k b p d live
 
   marked-few : Few (length (after .challengers)) k (lnDit p) (lnDah p) (markedTold k b p d live)
   marked-few =
       by-cond (Few (length (after .challengers)) k (lnDit p) (lnDah p)) live _ _
-      (λ e. streak-few k g after (mark-score-in (b .score) p d i) (lnDit p) (lnDah p) (high p d) d (b .evidence .last-gap))
+      (λ e. streak-few k g after (mark-score-in (b .score) p d i) (lnDit p) (lnDah p) (high p d) d
+      (b .evidence .last-gap))
       (λ e. few-stay k (lnDit p) (lnDah p) after)
 
   pub few-heard : length (heardMark k b p d live .left) ≤ length (b .challengers)
@@ -188,7 +197,9 @@ module _ (k : Settings) (g : Good k) (b : Bank) (i : In scoreMin nought (b .scor
 
   pub few-leave : length (onMark k b p d live .left) ≤ length (b .challengers)
   unfolding onMark
-  few-leave = by-cond (λ (t : Told). length (t .left) ≤ length (b .challengers)) (hears b p) _ _ (λ e. few-heard) (λ e. omega arith)
+  few-leave =
+      by-cond (λ (t : Told). length (t .left) ≤ length (b .challengers)) (hears b p) _ _ (λ e. few-heard)
+      (λ e. omega arith)
 
 -- where the primary becomes ready at most one leaves, and a challenger was there for it
 module _ (b : Bank) where
@@ -215,7 +226,8 @@ module _ (b : Bank) where
   ousted-few lo hi o none = none-ousted
   ousted-few lo hi o (some t) =
       by-cond Ousts (duplicateAt b lo hi t) (stay b) _ (λ e. none-ousted)
-      (λ e. by-cond Ousts (roomy b) _ _ (λ r. (omega arith, omega arith)) (λ r. replaced-few (newborn b t o) (victim (b .challengers))))
+      (λ e. by-cond Ousts (roomy b) _ _ (λ r. (omega arith, omega arith))
+      (λ r. replaced-few (newborn b t o) (victim (b .challengers))))
 
   pub few-ready : (k : Settings) (p : Tracker) (marks : List Float)
       → (length (onReady k b p marks .left) ≤ 1) × (length (onReady k b p marks .left) ≤ length (b .challengers))

@@ -20,6 +20,7 @@ use Rattle.bank.specs.declared.Changed.{Changed}
 use Rattle.bank.specs.declared.Switched.{Switched}
 use Rattle.bank.specs.View.{view}
 use Rattle.bank.specs.Parts.{Sturdy, widest, mostLeft}
+use Rattle.bank.specs.Switching.{primaryAfter}
 use Rattle.bank.specs.Sound.{sound}
 use Rattle.bank.specs.Answers.{Shown, shown, nothing, barred, widthRefusal}
 use Rattle.plain.specs.declared.PlainBank.{PlainBank}
@@ -108,6 +109,7 @@ pub record BankSwitches (n : ℕ) (b : PlainBank) (p : SpeedTracker) (serial : �
   pub flag : r .yes ≡ cond (eqb n 0) (m .switched) false
   pub kept : (n ≡ 0 → ⊥) → (r .bank ≡ b) × ((r .primary ≡ p) × (r .serial ≡ serial))
   pub state : n ≡ 0 → takenOf (r .bank) (r .primary) (r .serial) (m .switched) ≡ m
+  pub held : n ≡ 0 → r .primary ≡ primaryAfter (bankOf b) p (m .switched)
   pub still : n ≡ 0 → Well (r .bank) × T (Tracking.sound standard (r .primary))
 
 -- ---- an answer of the library's own as C reads it

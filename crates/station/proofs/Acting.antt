@@ -54,7 +54,8 @@ module _ (s : Station) (p : SpeedTracker) (serial : ℕ) (t : Changed) (code : C
     answer = record { code = code; departures = told t .left };
   }
 
-  pub accepts : (n : Counts) → T (Tracking.sound standard p) → Sturdy (t .bank) × Listed (t .left) (t .«left_len») → n ≡ tallied (s .counts) (take (t .«left_len») (t .left)) → Stands (made n) (accepted (view s) asked)
+  pub accepts : (n : Counts) → T (Tracking.sound standard p) → Sturdy (t .bank) × Listed (t .left) (t .«left_len»)
+      → n ≡ tallied (s .counts) (take (t .«left_len») (t .left)) → Stands (made n) (accepted (view s) asked)
   accepts n f k e = record { is = ap says e; primary = f; bank = k .0; listed = k .1 }
 
 -- ---- what was done is what the definitions say

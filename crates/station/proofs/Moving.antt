@@ -48,7 +48,8 @@ unfolding takeSwitch
 idle b p n e = by-cond (λ (t : Taken). untaken b p n ≡ t) (on b) (λ x. sym (ap (takenOf b p n) e)) (λ x. refl)
 
 -- the answer of a call that none leaves at
-pub none-leave : (s t : Station) (r : Outcome) (a : Act) (c : Code) → r ≡ noneLeft t c → Holds t (accepted (view s) a .station) → c ≡ a .code → a .told .left ≡ [] → Stands r (accepted (view s) a)
+pub none-leave : (s t : Station) (r : Outcome) (a : Act) (c : Code) → r ≡ noneLeft t c
+    → Holds t (accepted (view s) a .station) → c ≡ a .code → a .told .left ≡ [] → Stands r (accepted (view s) a)
 none-leave s t r a c d h e f =
     subst (λ (x : Outcome). Stands x (accepted (view s) a)) (sym d) (record {
       is = λ i. record { station = h .is i; answer = record { code = e i; departures = sym f i } };

@@ -87,7 +87,8 @@ module _ (was : Counts) (left : List Departure) (n : ℕ) where
       t .is ∙ ap (λ (j : ℕ). tallied was (take j left)) e
 
   -- the counts stay far below the largest u64
-  pub tally-small : (c : Counts) (i : ℕ) → n ≤ mostLeft → n ≤ length left → AtMost 4294967296 was → Tallying c i → AtMost 8589934592 c
+  pub tally-small : (c : Counts) (i : ℕ) → n ≤ mostLeft → n ≤ length left → AtMost 4294967296 was → Tallying c i
+      → AtMost 8589934592 c
   tally-small c i h k s t =
       let u = t .upto in
       let m = length-take-le i left (omega arith) in

@@ -23,7 +23,9 @@ no-departure-requires c κs = search needs
 
 loop-holds : tie.Need-loop-holds Inv-loop μ-loop
 unfolding filled
-loop-holds c = laden-begins plainDeparture noDeparture _ mostLeft _ _ _ (c .no-departure .ensures) (search (unmapped, needs)) (c .before .capped .ensures)
+loop-holds c =
+    laden-begins plainDeparture noDeparture _ mostLeft _ _ _ (c .no-departure .ensures) (search (unmapped, needs))
+    (c .before .capped .ensures)
 
 mul-d : tie.Need-mul-d Inv-loop μ-loop
 mul-d c = search needs
@@ -47,7 +49,9 @@ loop-less : tie.Need-loop-less Inv-loop μ-loop
 loop-less c = search needs
 
 loop-again : tie.Need-loop-again Inv-loop μ-loop
-loop-again c = laden-turns plainDeparture noDeparture _ mostLeft _ _ _ _ _ _ (c .before .before .loop-test .taken) (c .before .before .before .loop .inv) (c .plain-departure .ensures)
+loop-again c =
+    laden-turns plainDeparture noDeparture _ mostLeft _ _ _ _ _ _ (c .before .before .loop-test .taken)
+    (c .before .before .before .loop .inv) (c .plain-departure .ensures)
 
 returns : tie.Need-returns Inv-loop μ-loop
 returns c = laden-ends plainDeparture noDeparture _ mostLeft _ _ _ _ (c .loop-test .left) (c .before .loop .inv)

@@ -34,7 +34,8 @@ all-cleared-requires c κs = (c .before .before .pre .steady .crew, crew-few _ (
 returns-2 : tie.Need-returns-2
 returns-2 c =
     let s = c .before .before .before in
-    cleared-left (s .args .b) (s .pre) (c .all-cleared .result) (c .all-cleared .ensures) (le-leb 2 (s .args .b .width) (c .before .if1 .left))
+    cleared-left (s .args .b) (s .pre) (c .all-cleared .result) (c .all-cleared .ensures)
+    (le-leb 2 (s .args .b .width) (c .before .if1 .left))
 
 pub clear-spec : {M : Type 1} → statement M
 clear-spec = tie.close (tie.spec unchanged-requires returns all-cleared-requires returns-2)

@@ -60,19 +60,22 @@ why-requires c κs = (sift-member _ _ _ _ _ _ _ _ _ _ _ _ _ _ (c .before .before
 mul-left : tie.Need-mul-left Inv-loop μ-loop
 mul-left c =
     let s = c .before .before .before in
-    let r = room-here _ _ _ _ _ _ _ _ _ _ _ _ _ (s .before .before .loop .inv) (s .before .loop-test .taken) (sym (c .before .before .is-kept .ensures) ∙ c .before .if1 .left) .0 in
+    let r = room-here _ _ _ _ _ _ _ _ _ _ _ _ _ (s .before .before .loop .inv) (s .before .loop-test .taken)
+    (sym (c .before .before .is-kept .ensures) ∙ c .before .if1 .left) .0 in
     search needs
 
 array-set-from-left : tie.Need-array-set-from-left Inv-loop μ-loop
 array-set-from-left c =
     let s = c .before .before .before in
-    let r = room-here _ _ _ _ _ _ _ _ _ _ _ _ _ (s .before .before .loop .inv) (s .before .loop-test .taken) (sym (c .before .before .is-kept .ensures) ∙ c .before .if1 .left) .0 in
+    let r = room-here _ _ _ _ _ _ _ _ _ _ _ _ _ (s .before .before .loop .inv) (s .before .loop-test .taken)
+    (sym (c .before .before .is-kept .ensures) ∙ c .before .if1 .left) .0 in
     search needs
 
 add-g : tie.Need-add-g Inv-loop μ-loop
 add-g c =
     let s = c .before .before .before in
-    let r = room-here _ _ _ _ _ _ _ _ _ _ _ _ _ (s .before .before .loop .inv) (s .before .loop-test .taken) (sym (c .before .before .is-kept .ensures) ∙ c .before .if1 .left) .0 in
+    let r = room-here _ _ _ _ _ _ _ _ _ _ _ _ _ (s .before .before .loop .inv) (s .before .loop-test .taken)
+    (sym (c .before .before .is-kept .ensures) ∙ c .before .if1 .left) .0 in
     search needs
 
 loop-less-2 : tie.Need-loop-less-2 Inv-loop μ-loop

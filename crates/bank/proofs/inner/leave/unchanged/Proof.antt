@@ -10,7 +10,8 @@ nobody-requires : tie.Need-nobody-requires
 nobody-requires c κs = search needs
 
 returns : tie.Need-returns
-returns c = ap (λ (l : List Departure). record { bank = c .before .args .b; left = l; «left_len» = 0 }) (c .nobody .ensures)
+returns c =
+    ap (λ (l : List Departure). record { bank = c .before .args .b; left = l; «left_len» = 0 }) (c .nobody .ensures)
 
 pub unchanged-spec : {M : Type 1} → statement M
 unchanged-spec = tie.close (tie.spec nobody-requires returns)

@@ -28,11 +28,25 @@ score-mark-requires c κs = search needs
 prune-requires : tie.Need-prune-requires
 prune-requires c κs =
     let s = c .before .before .before .before in
-    let e = c .score-mark .ensures in
-    (e .sturdy .steady, (e .listed, few-marked (s .args .b) (s .pre .0 .0) (s .args .p) _ _ (s .args .d) (s .args .live) (c .score-mark .result) (c .before .before .log-of .ensures) (c .before .log-of2 .ensures) (e .is)))
+    let e = c .score-mark .ensures in (
+      e .sturdy .steady,
+      (
+        e .listed,
+        few-marked (s .args .b) (s .pre .0 .0) (s .args .p) _ _ (s .args .d) (s .args .live)
+            (c .score-mark .result) (c .before .before .log-of .ensures) (c .before .log-of2 .ensures) (e .is),
+      ),
+    )
 
 returns : tie.Need-returns
-returns c = let s = c .before .before .before .before .before .args in let u = c .prune .ensures in record { is = mark-told (view (s .b)) (Tracked.view (s .p)) _ _ (s .d) (s .live) (c .before .score-mark .result) _ (c .before .before .before .log-of .ensures) (c .before .before .log-of2 .ensures) (c .before .score-mark .ensures .is) (u .is); sturdy = u .sturdy; listed = u .listed }
+returns c =
+    let s = c .before .before .before .before .before .args in let u = c .prune .ensures in
+    record {
+      is = mark-told (view (s .b)) (Tracked.view (s .p)) _ _ (s .d) (s .live) (c .before .score-mark .result) _
+          (c .before .before .before .log-of .ensures) (c .before .before .log-of2 .ensures)
+          (c .before .score-mark .ensures .is) (u .is);
+      sturdy = u .sturdy;
+      listed = u .listed;
+    }
 
 pub hear-mark-spec : {M : Type 1} → statement M
 hear-mark-spec =

@@ -28,7 +28,16 @@ hear-mark-requires c κs = (c .before .before .before .pre .0, (c .before .befor
 
 -- src/inner/mark.rt:98:9
 returns : tie.Need-returns
-returns c = record { is = c .hear-mark .ensures .is ∙ mark-heard-by (view (c .before .before .before .before .args .b)) (Tracked.view (c .before .before .before .before .args .p)) (c .before .before .before .before .args .d) (c .before .before .before .before .args .live) true (sym (c .before .before .hears .ensures) ∙ c .before .if1 .taken); sturdy = c .hear-mark .ensures .sturdy; listed = c .hear-mark .ensures .listed }
+returns c =
+    record {
+      is = c .hear-mark .ensures .is ∙ mark-heard-by (view (c .before .before .before .before .args .b))
+          (Tracked.view (c .before .before .before .before .args .p)) (c .before .before .before .before .args .d)
+          (c .before .before .before .before .args .live) true
+          (sym (c .before .before .hears .ensures)
+          ∙ c .before .if1 .taken);
+      sturdy = c .hear-mark .ensures .sturdy;
+      listed = c .hear-mark .ensures .listed;
+    }
 
 -- src/inner/mark.rt:100:5
 unchanged-requires : tie.Need-unchanged-requires
@@ -38,7 +47,8 @@ unchanged-requires c κs = search needs
 returns-2 : tie.Need-returns-2
 returns-2 c =
     let s = c .before .before .before .before in
-    left-as _ _ _ (mark-heard-by (view (s .args .b)) (Tracked.view (s .args .p)) (s .args .d) (s .args .live) false (sym (c .before .before .hears .ensures) ∙ c .before .if1 .left))
+    left-as _ _ _ (mark-heard-by (view (s .args .b)) (Tracked.view (s .args .p)) (s .args .d) (s .args .live) false
+    (sym (c .before .before .hears .ensures) ∙ c .before .if1 .left))
     (unchanged-left (s .args .b) _ (c .unchanged .ensures) (s .pre .0 .0))
 
 pub on-mark-spec : {M : Type 1} → statement M
