@@ -17,9 +17,10 @@ use Rattle.tracker.specs.declared.SpeedTracker.{SpeedTracker}
 use Rattle.tracker.specs.Model.{Tracker}
 use Rattle.marks.specs.Lists.{pushed}
 use Rattle.tracker.specs.Model as Tracked
-use Rattle.tracker.specs.Steps.{settled}
+use Rattle.tracker.specs.Parts.{unflagged}
 use Rattle.tracker.specs.Sound.{sound}
 use Rattle.tracker.proofs.Soundness.{sound-fine}
+use Rattle.tracker.proofs.Stored.{unflagged-view}
 use Rattle.pair.proofs.Soundness.{ready-in}
 use Rattle.marks.proofs.Shifting.{push-room, push-full}
 use Rattle.bank_model.specs.declared.SwitchRecord.{SwitchRecord}
@@ -33,7 +34,7 @@ use Rattle.rival.specs.View.{viewHyp}
 use Rattle.bank.specs.View.{given, viewAll, view}
 use Rattle.rival.specs.Parts.{Fit}
 use Rattle.bank.specs.Parts.{All, Crew, Recorded, Log, relogged, Logging, Sturdy}
-use Rattle.bank.specs.Switching.{taking, noting, Chosen, viewTaken, Took}
+use Rattle.bank.specs.Switching.{taking, noting, Chosen, viewTaken, movedIn, Took}
 use Rattle.bank.proofs.Lists.{all-append, put-at-end, map-set, view-length, view-at}
 use Rattle.bank.proofs.Stock.{room, member, crew-set}
 use Rattle.bank.proofs.Coming.{elem}
@@ -145,6 +146,9 @@ module _ (b : TimingBank) (s : Sturdy b) (i : ℕ) (lt : i < b .«challengers_le
   pub it-fit : Fit it
   it-fit = member len (b .challengers) i z lt (s .steady .crew)
 
+  there : i < length (b .challengers)
+  there = let r = room len (b .challengers) (s .steady .crew) in omega arith
+
   found : getElem? (view b .challengers) i ≡ some (viewHyp it)
   found =
       let v = view-length viewHyp len (b .challengers) (room len (b .challengers) (s .steady .crew)) in
@@ -175,9 +179,10 @@ module _ (b : TimingBank) (s : Sturdy b) (i : ℕ) (lt : i < b .«challengers_le
   Rec p a = record { «mark_index» = b .«marks_seen»; «from_dit_ms» = p .pair .lo; «to_dit_ms» = it .tracker .pair .lo; applied = a }
 
   pub exchange-took : (p q : SpeedTracker) (serial : ℕ) (f : TimingHypothesis) (c : TimingBank) → Logging b c (logged (view b .log) (Rec p true)) → (viewHyp f ≡ formerly (view b) (Tracked.view p) serial) × Fit f
-      → (Tracked.view q ≡ settled (Tracked.view (it .tracker))) × T (sound standard q)
-      → Took (record { bank = Out c f; primary = q; serial = it .serial; switched = true }) (taking exchanged (view b) (Tracked.view p) serial i (getElem? (view b .challengers) i))
-  exchange-took p q serial f c k ef eq =
+      → (q ≡ unflagged (it .tracker)) × T (sound standard q) → i ≡ b .pending
+      → Took b p (record { bank = Out c f; primary = q; serial = it .serial; switched = true })
+      (taking exchanged (view b) (Tracked.view p) serial i (getElem? (view b .challengers) i))
+  exchange-took p q serial f c k ef eq ei =
       let t = s .steady in
       let w = it-fit in
       record {
@@ -185,11 +190,20 @@ module _ (b : TimingBank) (s : Sturdy b) (i : ℕ) (lt : i < b .«challengers_le
             ap (λ (x : TimingBank). record { bank = view (Out x f); primary = Tracked.view q; serial = it .serial; switched = true }) (k .same)
             ∙ ap (λ (l : List Hyp). record { bank = mOut l (take (c .«log_len») (c .log)); primary = Tracked.view q; serial = it .serial; switched = true }) (placed f ∙ ap (set (view b .challengers) i) (ef .0))
             ∙ ap (λ (l : List SwitchRecord). record { bank = mOut (set (view b .challengers) i (formerly (view b) (Tracked.view p) serial)) l; primary = Tracked.view q; serial = it .serial; switched = true }) (k .is)
-            ∙ ap (λ (m : Tracker). record { bank = mOut (set (view b .challengers) i (formerly (view b) (Tracked.view p) serial)) (logged (view b .log) (Rec p true)); primary = m; serial = it .serial; switched = true }) (eq .0)
+            ∙ ap (λ (m : Tracker). record {
+              bank = mOut
+                  (set (view b .challengers) i (formerly (view b) (Tracked.view p) serial))
+                  (logged (view b .log) (Rec p true));
+              primary = m;
+              serial = it .serial;
+              switched = true;
+            })
+            (unflagged-view q (it .tracker) (eq .0))
             ∙ ap (taking exchanged (view b) (Tracked.view p) serial i) (sym found);
+        held = eq .0 ∙ sym (ap (movedIn p) (ap (getElem? (b .challengers)) (sym ei) ∙ elem (b .challengers) i z there));
         sturdy = subst (λ (x : TimingBank). Sturdy (Out x f)) (sym (k .same)) (record {
           steady = record {
-            some = t .some;
+            wideEnough = t .wideEnough;
             wide = t .wide;
             below = t .below;
             crew = crew-set len (b .challengers) i f (ef .1) (t .crew);
@@ -216,7 +230,7 @@ module _ (b : TimingBank) (s : Sturdy b) (i : ℕ) (lt : i < b .«challengers_le
       let t = s .steady in (
         noted-is (Tracked.view p) true e,
         record {
-          steady = record { some = t .some; wide = t .wide; below = t .below; crew = t .crew; score = t .score; gapScore = t .gapScore; streaks = t .streaks; lastGap = t .lastGap; log = t .log };
+          steady = record { wideEnough = t .wideEnough; wide = t .wide; below = t .below; crew = t .crew; score = t .score; gapScore = t .gapScore; streaks = t .streaks; lastGap = t .lastGap; log = t .log };
           pending = λ e. absurd (false≢true e);
         },
       )
@@ -230,7 +244,7 @@ module _ (b : TimingBank) (s : Sturdy b) (i : ℕ) (lt : i < b .«challengers_le
             ∙ ap (unpended (view b) (set (view b .challengers) i (reporting (viewHyp it)))) (k .is)
             ∙ noted-is (Tracked.view p) false e,
         subst (λ (x : TimingBank). Sturdy (noted x (set (x .challengers) i g))) (sym (k .same)) (record {
-          steady = record { some = t .some; wide = t .wide; below = t .below; crew = crew-set len (b .challengers) i g (eg .1) (t .crew); score = t .score; gapScore = t .gapScore; streaks = t .streaks; lastGap = t .lastGap; log = k .log };
+          steady = record { wideEnough = t .wideEnough; wide = t .wide; below = t .below; crew = crew-set len (b .challengers) i g (eg .1) (t .crew); score = t .score; gapScore = t .gapScore; streaks = t .streaks; lastGap = t .lastGap; log = k .log };
           pending = λ e. absurd (false≢true e);
         }),
       )
@@ -267,5 +281,6 @@ module _ (b : TimingBank) (p : Tracker) (serial : ℕ) where
   pub call-off : leb 2 (b .width) ≡ false → untaken m p serial ≡ takeSwitch m p serial
   call-off ew = call-is false (b .«has_pending») ew refl
 
-pub took-as : (r : Taken) (m m' : Steps.Taken) → m ≡ m' → Took r m → Took r m'
-took-as r m m' e k = subst (Took r) e k
+pub took-as : (b : TimingBank) (p : SpeedTracker) (r : Taken) (m m' : Steps.Taken) → m ≡ m' → Took b p r m
+    → Took b p r m'
+took-as b p r m m' e k = subst (Took b p r) e k

@@ -18,7 +18,7 @@ use Rattle.bank.specs.declared.Answered.{Answered}
 use Rattle.bank.specs.declared.Heard.{Heard}
 use Rattle.bank.specs.declared.Switched.{Switched}
 use Rattle.bank.specs.View.{view}
-use Rattle.bank.specs.Parts.{widest}
+use Rattle.bank.specs.Parts.{widest, mostLeft}
 use Rattle.bank.specs.Sound.{sound}
 use Rattle.bank.specs.Answers.{Answers, Hears, Started, Switches, bankThen, widthRefusal}
 use Rattle.plain.specs.declared.PlainBank.{PlainBank}
@@ -79,7 +79,7 @@ module _ (b : PlainBank) (e : isBank b ≡ true) where
         kept = λ z. (refused-with b (c .bank) (λ w. z (known n ∙ sym i ∙ w)), h .kept (λ w. z (known n ∙ w)) .1);
         state = λ z. changed-is c (done-with b (c .bank) (i ∙ sym (known n) ∙ z)) refl (h .state (sym (known n) ∙ z));
         still = λ z. well-as (c .bank) (done-with b (c .bank) (i ∙ sym (known n) ∙ z)) (h .still (sym (known n) ∙ z));
-        few = h .few;
+        few = h .listed .few;
         blank = left-blank (c .left) (c .«left_len») refl;
       }
 
@@ -103,11 +103,13 @@ module _ (b : PlainBank) (e : isBank b ≡ true) where
         flag = ap yes (h .says) ∙ yes-flag n (m .switched) ∙ ap (λ (k : ℕ). cond (eqb k 0) (m .switched) false) (sym (known n));
         kept = λ z. (refused-with b (r .bank) (λ w. z (known n ∙ sym i ∙ w)), h .kept (λ w. z (known n ∙ w)) .1);
         state = λ z. ap (λ (v : Model.Bank). taking v r (m .switched)) (view-as (r .bank) (done-with b (r .bank) (i ∙ sym (known n) ∙ z))) ∙ h .state (sym (known n) ∙ z);
+        held = λ z. h .held (sym (known n) ∙ z);
         still = λ z. (well-as (r .bank) (done-with b (r .bank) (i ∙ sym (known n) ∙ z)) (h .still (sym (known n) ∙ z) .0), h .still (sym (known n) ∙ z) .1);
       }
 
 -- ---- one that is not
-pub barred-with : (b : PlainBank) {d : PlainDeparture} → d ≡ noDeparture → Refused b (record { code = 1; bank = b; left = filled d 9; «left_len» = 0 })
+pub barred-with : (b : PlainBank) {d : PlainDeparture} → d ≡ noDeparture
+    → Refused b (record { code = 1; bank = b; left = filled d mostLeft; «left_len» = 0 })
 unfolding carried filled
 barred-with b e = record { says = refl; kept = (refl, refl); blank = rw e }
 
@@ -125,7 +127,16 @@ module _ (b : PlainBank) (e : isBank b ≡ false) where
   hears-not n m = record { says = sym (barred n); kept = λ z. refl; state = never n; still = never n }
 
   pub switches-not : (n : ℕ) (p : SpeedTracker) (serial : ℕ) (m : Steps.Taken) → BankSwitches (plainThen b n) b p serial m (record { code = 1; yes = false; bank = b; primary = p; serial = serial })
-  switches-not n p serial m = record { says = sym (barred n); flag = rw (barred n); kept = λ z. (refl, (refl, refl)); state = never n; still = never n }
+  switches-not n p serial m =
+      record {
+        says = sym (barred n);
+        flag = rw (barred n);
+        kept = λ z.
+            (refl, (refl, refl));
+        state = never n;
+        held = never n;
+        still = never n;
+      }
 
 -- ---- a start
 pub started : (width : ℕ) (switching : Bool) (why : Told) (d : TimingBank) {n : ℕ} {q : PlainBank} → n ≡ code (ofTold why) → q ≡ plainBank d → Started standard width switching why d → BankStarted width switching (record { code = n; bank = q })

@@ -19,7 +19,8 @@ use Rattle.bank.specs.declared.TimingBank.{TimingBank}
 use Rattle.bank.specs.declared.Changed.{Changed}
 use Rattle.bank.specs.declared.Switched.{Switched}
 use Rattle.bank.specs.View.{view}
-use Rattle.bank.specs.Parts.{Sturdy, widest}
+use Rattle.bank.specs.Parts.{Sturdy, widest, mostLeft}
+use Rattle.bank.specs.Switching.{primaryAfter}
 use Rattle.bank.specs.Sound.{sound}
 use Rattle.bank.specs.Answers.{Shown, shown, nothing, barred, widthRefusal}
 use Rattle.plain.specs.declared.PlainBank.{PlainBank}
@@ -83,7 +84,7 @@ pub record BankAnswers (n : ℕ) (b : PlainBank) (m : Model.Told) (r : BankAnswe
   pub kept : (n ≡ 0 → ⊥) → (r .bank ≡ b) × (r .«left_len» ≡ 0)
   pub state : n ≡ 0 → Tells m (r .bank) (r .left) (r .«left_len»)
   pub still : n ≡ 0 → Well (r .bank)
-  pub few : r .«left_len» ≤ 9
+  pub few : r .«left_len» ≤ mostLeft
   pub blank : Blank (r .left) (r .«left_len»)
 
 -- a form that is no bank's
@@ -108,6 +109,7 @@ pub record BankSwitches (n : ℕ) (b : PlainBank) (p : SpeedTracker) (serial : �
   pub flag : r .yes ≡ cond (eqb n 0) (m .switched) false
   pub kept : (n ≡ 0 → ⊥) → (r .bank ≡ b) × ((r .primary ≡ p) × (r .serial ≡ serial))
   pub state : n ≡ 0 → takenOf (r .bank) (r .primary) (r .serial) (m .switched) ≡ m
+  pub held : n ≡ 0 → r .primary ≡ primaryAfter (bankOf b) p (m .switched)
   pub still : n ≡ 0 → Well (r .bank) × T (Tracking.sound standard (r .primary))
 
 -- ---- an answer of the library's own as C reads it

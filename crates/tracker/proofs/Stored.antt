@@ -1,5 +1,5 @@
 -- What the machine's hold on a tracker says of its numbers: they are values of f32. Assumes nothing.
-use mathlib.Core.Path.{_≡_}
+use mathlib.Core.Path.{_≡_, ap}
 use mathlib.Core.Bool.{Bool, true, false}
 use lib.Dec.{T}
 use lib.ListN.{length}
@@ -13,11 +13,11 @@ use Rattle.ranges.specs.Limits.{dahMin, dahMax}
 use Rattle.ranges.specs.Settings.{standard}
 use Rattle.ranges.proofs.Compare.{passed}
 use Rattle.ranges.proofs.Standard.{standard-good, standard-held}
-use Rattle.tracker.specs.Steps.{ditEstimate}
+use Rattle.tracker.specs.Steps.{ditEstimate, settled}
 use Rattle.tracker.specs.declared.SpeedTracker.{SpeedTracker}
 use Rattle.tracker.specs.Model.{Tracker, view}
 use Rattle.pair.specs.Model.{held}
-use Rattle.tracker.specs.Parts.{Counted}
+use Rattle.tracker.specs.Parts.{Counted, unflagged}
 use Rattle.tracker.specs.Sound.{sound}
 use Rattle.tracker.proofs.SpeedTracker.{the-type}
 use Rattle.marks.proofs.Shifting.{unmapped}
@@ -43,6 +43,11 @@ sane-of t v g s = record { fine = sound-fine standard t s; floats = floats-of t 
 -- a tracker with the view m, which is sane, is sound
 pub still : (r : SpeedTracker) (m : Tracker) → (view r ≡ m) × Counted r → Sane standard standard-good standard-held m → (view r ≡ m) × T (sound standard r)
 still r m e s = (e .0, sound-by standard r m e (proper-of standard m (s .fine)))
+
+-- what a tracker means once the flag of a recovery is cleared
+pub unflagged-view : (r t : SpeedTracker) → r ≡ unflagged t → view r ≡ settled (view t)
+unfolding settled unflagged
+unflagged-view r t e = ap view e
 
 pub init-long : (t : SpeedTracker) (v : Valss (shape the-type .fields)) → shadow (owns (shape the-type .fields) (the-type .to t) v) → length (t .pair .init) ≡ 12
 init-long t v g = length-unmapped Float (t .pair .init) 12 (g .0 .1 .1 .1 .1 .0 .1 .0 .1)

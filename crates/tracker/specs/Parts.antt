@@ -60,3 +60,23 @@ blank = record {
   «badlock_recovered» = false;
   «lo_uncorroborated» = false;
 }
+
+-- a tracker with the flag of a recovery cleared: each other field is as it was, with places beyond a count and absent
+-- numbers
+unfoldable pub unflagged : SpeedTracker → SpeedTracker
+unflagged t = record {
+  pair = t .pair;
+  ring = t .ring;
+  «ring_len» = t .«ring_len»;
+  «has_wpm» = t .«has_wpm»;
+  «wpm_ema» = t .«wpm_ema»;
+  recent = t .recent;
+  «recent_len» = t .«recent_len»;
+  «has_egap» = t .«has_egap»;
+  «mu_egap_ms» = t .«mu_egap_ms»;
+  «has_hint» = t .«has_hint»;
+  «ratio_hint» = t .«ratio_hint»;
+  regime = t .regime;
+  «badlock_recovered» = false;
+  «lo_uncorroborated» = t .«lo_uncorroborated»;
+}

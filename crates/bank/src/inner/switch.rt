@@ -93,8 +93,8 @@ pub(crate) fn former(b: TimingBank, p: SpeedTracker, serial: u64) -> TimingHypot
 pub(crate) fn exchange(b: TimingBank, p: SpeedTracker, serial: u64, i: usize) -> Taken
     requires { ⌜ Sturdy b ⌝ }
     requires { ⌜ T (sound standard p) × (p .pair .ready ≡ true) ⌝ }
-    requires { ⌜ i < b .«challengers_len» ⌝ }
-    ensures { λ r. ⌜ Took r (taking exchanged (view b) (Tracked.view p) serial i (getElem? (view b .challengers) i)) ⌝ }
+    requires { ⌜ (i < b .«challengers_len») × (i ≡ b .pending) ⌝ }
+    ensures { λ r. ⌜ Took b p r (taking exchanged (view b) (Tracked.view p) serial i (getElem? (view b .challengers) i)) ⌝ }
 {
     let h = b.challengers[i];
     let t = h.tracker;
@@ -157,7 +157,7 @@ pub fn take_switch(b: TimingBank, p: SpeedTracker, serial: u64) -> Taken
     requires { ⌜ Sturdy b ⌝ }
     requires { ⌜ T (sound standard p) ⌝ }
     requires { ⌜ Chosen b p ⌝ }
-    ensures { λ r. ⌜ Took r (takeSwitch (view b) (Tracked.view p) serial) ⌝ }
+    ensures { λ r. ⌜ Took b p r (takeSwitch (view b) (Tracked.view p) serial) ⌝ }
 {
     if 2 <= b.width {
         if b.has_pending {

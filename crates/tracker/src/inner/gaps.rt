@@ -8,8 +8,9 @@ ghost use Rattle.ranges.specs.Settings.{standard};
 ghost use Rattle.pair.specs.Model.{held};
 ghost use Rattle.tracker.specs.Model.{view};
 ghost use Rattle.marks.specs.Lists.{duration};
+ghost use Rattle.tracker.specs.Parts.{unflagged};
 ghost use Rattle.tracker.specs.Sound.{sound};
-ghost use Rattle.tracker.specs.Steps.{setHint, gapMoved, onGap, settled};
+ghost use Rattle.tracker.specs.Steps.{setHint, gapMoved, onGap};
 
 // The hint, clamped; one that is not finite empties it.
 pub fn set_ratio_hint(t: SpeedTracker, hint: f32) -> SpeedTracker
@@ -52,7 +53,7 @@ pub fn on_element_gap(t: SpeedTracker, d: f32) -> SpeedTracker
 // The flag of a recovery is cleared.
 pub fn settle(t: SpeedTracker) -> SpeedTracker
     requires { ⌜ T (sound standard t) ⌝ }
-    ensures { λ r. ⌜ (view r ≡ settled (view t)) × T (sound standard r) ⌝ }
+    ensures { λ r. ⌜ (r ≡ unflagged t) × T (sound standard r) ⌝ }
 {
     let mut u = t;
     u.badlock_recovered = false;

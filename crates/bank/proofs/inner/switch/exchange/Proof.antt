@@ -22,7 +22,7 @@ former-requires c κs = search needs
 
 -- src/inner/switch.rt:106:17
 push-log-requires : tie.Need-push-log-requires
-push-log-requires c κs = (c .before .before .before .pre .0 .steady .log, record { from = dit-duration (c .before .before .before .args .p) (c .before .before .before .pre .1 .0 .0) (c .before .before .before .pre .1 .0 .1); to = let f = it-fit (c .before .before .before .args .t1) (c .before .before .before .pre .0) (c .before .before .before .args .i) (c .before .before .before .pre .1 .1) _ in dit-duration _ (f .tracker) (f .ready) })
+push-log-requires c κs = (c .before .before .before .pre .0 .steady .log, record { from = dit-duration (c .before .before .before .args .p) (c .before .before .before .pre .1 .0 .0) (c .before .before .before .pre .1 .0 .1); to = let f = it-fit (c .before .before .before .args .t1) (c .before .before .before .pre .0) (c .before .before .before .args .i) (c .before .before .before .pre .1 .1 .0) _ in dit-duration _ (f .tracker) (f .ready) })
 
 -- src/inner/switch.rt:107:5
 mul-f : tie.Need-mul-f
@@ -34,11 +34,11 @@ element-set-from-f c = search needs
 
 -- src/inner/switch.rt:114:9
 settle-requires : tie.Need-settle-requires
-settle-requires c κs = it-fit (c .before .before .before .before .args .t1) (c .before .before .before .before .pre .0) (c .before .before .before .before .args .i) (c .before .before .before .before .pre .1 .1) _ .tracker
+settle-requires c κs = it-fit (c .before .before .before .before .args .t1) (c .before .before .before .before .pre .0) (c .before .before .before .before .args .i) (c .before .before .before .before .pre .1 .1 .0) _ .tracker
 
 -- src/inner/switch.rt:91:1
 returns : tie.Need-returns
-returns c = exchange-took (c .before .before .before .before .before .args .t1) (c .before .before .before .before .before .pre .0) (c .before .before .before .before .before .args .i) (c .before .before .before .before .before .pre .1 .1) _ (c .before .before .before .before .before .args .p) (c .settle .result) (c .before .before .before .before .before .args .serial) (c .before .before .former .result) (c .before .push-log .result) (c .before .push-log .ensures) (c .before .before .former .ensures) (c .settle .ensures)
+returns c = exchange-took (c .before .before .before .before .before .args .t1) (c .before .before .before .before .before .pre .0) (c .before .before .before .before .before .args .i) (c .before .before .before .before .before .pre .1 .1 .0) _ (c .before .before .before .before .before .args .p) (c .settle .result) (c .before .before .before .before .before .args .serial) (c .before .before .former .result) (c .before .push-log .result) (c .before .push-log .ensures) (c .before .before .former .ensures) (c .settle .ensures) (c .before .before .before .before .before .pre .1 .1 .1)
 
 pub exchange-spec : {M : Type 1} → statement M
 exchange-spec =

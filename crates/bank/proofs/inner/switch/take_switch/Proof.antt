@@ -14,11 +14,11 @@ use Rattle.bank.proofs.inner.switch.observe.Reads as observe-reads
 
 -- src/inner/switch.rt:164:17
 exchange-requires : tie.Need-exchange-requires
-exchange-requires c κs = (c .before .before .before .before .pre .0, ((c .before .before .before .before .pre .1 .0, c .before .before .before .before .pre .1 .1 (c .before .if2 .taken)), c .before .before .before .before .pre .0 .pending (c .before .if2 .taken)))
+exchange-requires c κs = (c .before .before .before .before .pre .0, ((c .before .before .before .before .pre .1 .0, c .before .before .before .before .pre .1 .1 (c .before .if2 .taken)), (c .before .before .before .before .pre .0 .pending (c .before .if2 .taken), refl)))
 
 -- src/inner/switch.rt:164:17
 returns : tie.Need-returns
-returns c = took-as _ _ _ (call-exchange (c .before .before .before .before .before .args .b) (Tracked.view (c .before .before .before .before .before .args .p)) (c .before .before .before .before .before .args .serial) (le-leb 2 (c .before .before .before .before .before .args .b .width) (c .before .before .before .if1 .taken)) (c .before .before .if2 .taken) (c .before .if3 .taken)) (c .exchange .ensures)
+returns c = took-as _ _ _ _ _ (call-exchange (c .before .before .before .before .before .args .b) (Tracked.view (c .before .before .before .before .before .args .p)) (c .before .before .before .before .before .args .serial) (le-leb 2 (c .before .before .before .before .before .args .b .width) (c .before .before .before .if1 .taken)) (c .before .before .if2 .taken) (c .before .if3 .taken)) (c .exchange .ensures)
 
 -- src/inner/switch.rt:166:17
 observe-requires : tie.Need-observe-requires
@@ -26,15 +26,15 @@ observe-requires c κs = (c .before .before .before .before .pre .0, ((c .before
 
 -- src/inner/switch.rt:167:13
 returns-2 : tie.Need-returns-2
-returns-2 c = record { is = ap (λ (m : Bank). untaken m (Tracked.view (c .before .before .before .before .before .args .p)) (c .before .before .before .before .before .args .serial)) (c .observe .ensures .0) ∙ call-observe (c .before .before .before .before .before .args .b) (Tracked.view (c .before .before .before .before .before .args .p)) (c .before .before .before .before .before .args .serial) (le-leb 2 (c .before .before .before .before .before .args .b .width) (c .before .before .before .if1 .taken)) (c .before .before .if2 .taken) (c .before .if3 .left); sturdy = c .observe .ensures .1; primary = c .before .before .before .before .before .pre .1 .0 }
+returns-2 c = record { is = ap (λ (m : Bank). untaken m (Tracked.view (c .before .before .before .before .before .args .p)) (c .before .before .before .before .before .args .serial)) (c .observe .ensures .0) ∙ call-observe (c .before .before .before .before .before .args .b) (Tracked.view (c .before .before .before .before .before .args .p)) (c .before .before .before .before .before .args .serial) (le-leb 2 (c .before .before .before .before .before .args .b .width) (c .before .before .before .if1 .taken)) (c .before .before .if2 .taken) (c .before .if3 .left); held = refl; sturdy = c .observe .ensures .1; primary = c .before .before .before .before .before .pre .1 .0 }
 
 -- src/inner/switch.rt:154:1
 returns-3 : tie.Need-returns-3
-returns-3 c = record { is = call-none (c .before .before .before .args .b) (Tracked.view (c .before .before .before .args .p)) (c .before .before .before .args .serial) (le-leb 2 (c .before .before .before .args .b .width) (c .before .if1 .taken)) (c .if2 .left); sturdy = c .before .before .before .pre .0; primary = c .before .before .before .pre .1 .0 }
+returns-3 c = record { is = call-none (c .before .before .before .args .b) (Tracked.view (c .before .before .before .args .p)) (c .before .before .before .args .serial) (le-leb 2 (c .before .before .before .args .b .width) (c .before .if1 .taken)) (c .if2 .left); held = refl; sturdy = c .before .before .before .pre .0; primary = c .before .before .before .pre .1 .0 }
 
 -- src/inner/switch.rt:154:1
 returns-4 : tie.Need-returns-4
-returns-4 c = record { is = call-off (c .before .before .args .b) (Tracked.view (c .before .before .args .p)) (c .before .before .args .serial) (lt-leb 2 (c .before .before .args .b .width) (c .if1 .left)); sturdy = c .before .before .pre .0; primary = c .before .before .pre .1 .0 }
+returns-4 c = record { is = call-off (c .before .before .args .b) (Tracked.view (c .before .before .args .p)) (c .before .before .args .serial) (lt-leb 2 (c .before .before .args .b .width) (c .if1 .left)); held = refl; sturdy = c .before .before .pre .0; primary = c .before .before .pre .1 .0 }
 
 pub take-switch-spec : {M : Type 1} → statement M
 take-switch-spec =
