@@ -97,16 +97,17 @@ refusal-small s e = by-cond Small (full s) (λ i. omega arith) (λ i. fault-smal
 pub record Sorted (m : Model.Station) (o : Model.Outcome) : Type 0 where
   pub small : number (o .answer .code) ≤ 12
   pub same : taken (o .answer .code) ≡ false → o .station ≡ m
+  pub counts : taken (o .answer .code) ≡ true → o .station .accepted ≡ m .accepted + 1
 
 abbrev Sorts : Model.Station → Model.Outcome → Type 0
 Sorts m o = Sorted m o
 
 refused-sorts : (m : Model.Station) (n : ℕ) → n ≤ 12 → Sorted m (refusedBy n m)
-refused-sorts m n h = record { small = h; same = λ e. refl }
+refused-sorts m n h = record { small = h; same = λ e. refl; counts = λ e. absurd (true≢false (sym e)) }
 
 outcome-sorts : (m : Model.Station) (e : Event) (n : ℕ) → n ≤ 8 → Sorted m (Model.outcome standard m e n)
-outcome-sorts m e zero h = let a = acts standard m e in let b = a .1 in record { small = omega arith; same = λ f. absurd (true≢false (sym (a .0) ∙ f)) }
-outcome-sorts m e (suc n) h = record { small = omega arith; same = λ f. refl }
+outcome-sorts m e zero h = let a = acts standard m e in let b = a .1 in record { small = omega arith; same = λ f. absurd (true≢false (sym (a .0) ∙ f)); counts = λ f. refl }
+outcome-sorts m e (suc n) h = record { small = omega arith; same = λ f. refl; counts = λ f. absurd (true≢false (sym f)) }
 
 step-sorts : (m : Model.Station) (e : Event) → Sorted m (step standard m e)
 unfolding step

@@ -25,7 +25,7 @@ use Rattle.station_model.proofs.Lists.{by-cond}
 use Rattle.station_model.proofs.Whole.{program-watch}
 use Rattle.station.proofs.Watching.{same}
 use Rattle.plain.specs.declared.PlainDeparture.{PlainDeparture}
-use Rattle.plain.specs.Plain.{causeCode, plainDeparture}
+use Rattle.plain.specs.Plain.{causeCode, noDeparture, plainDeparture}
 use Rattle.plain_station.specs.declared.PlainStation.{PlainStation}
 use Rattle.hullathan.specs.declared.PlainAnswer.{PlainAnswer}
 use Rattle.hullathan.specs.declared.PlainBatch.{PlainBatch}
@@ -62,7 +62,7 @@ left-back : (l : List Departure) → map departureOf (map plainDeparture l) ≡ 
 left-back [] = refl
 left-back (d ∷ l) = λ i. gone (d .serial) (cause-back (d .cause) i) ∷ left-back l i
 
-take-padded : (k : ℕ) (l : List Departure) → length l ≤ k → take (length l) (padded k (map plainDeparture l)) ≡ map plainDeparture l
+take-padded : (k : ℕ) (l : List Departure) → length l ≤ k → take (length l) (padded noDeparture k (map plainDeparture l)) ≡ map plainDeparture l
 unfolding padded
 take-padded k [] h = refl
 take-padded zero (d ∷ l) h = absurd (omega arith)

@@ -31,8 +31,10 @@ pub(crate) fn no_answer() -> PlainAnswer
     let left = [z; 9];
     PlainAnswer {
         code: 129,
+        pad_code: [0; 3],
         dit_ms: 0.0,
         dah_ms: 0.0,
+        pad_dah_ms: [0; 4],
         serial: 0,
         challengers: 0,
         left,

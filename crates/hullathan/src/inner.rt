@@ -63,8 +63,10 @@ pub(crate) fn row_of(a: Answer, lo: f32, hi: f32, serial: u64, challengers: usiz
     let left = plain_departures(l, a.left_len);
     PlainAnswer {
         code: code_number(why),
+        pad_code: [0; 3],
         dit_ms: lo,
         dah_ms: hi,
+        pad_dah_ms: [0; 4],
         serial,
         challengers,
         left,
