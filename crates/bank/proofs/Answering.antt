@@ -27,10 +27,11 @@ use Rattle.bank.specs.declared.Challenger.{Challenger}
 use Rattle.rival.specs.declared.TimingHypothesis.{TimingHypothesis}
 use Rattle.bank.specs.declared.inner.switch.Taken.{Taken}
 use Rattle.bank.specs.View.{view, told}
-use Rattle.bank.specs.Parts.{widest, Sturdy, Came, Left}
+use Rattle.bank.specs.Parts.{widest, untouched, Sturdy, Left}
 use Rattle.bank.specs.Sound.{sound}
 use Rattle.bank.specs.Switching.{Took}
 use Rattle.bank.specs.Answers.{Shown, shown, nothing, barred, showing, ofChallenger, toldOf, bankThen, widthRefusal, Leaves, Started, Hears, Answers, Switches}
+use Rattle.bank.proofs.Padding.{none-listed}
 use Rattle.bank.proofs.Coming.{elem}
 use Rattle.bank.proofs.Sounding.{sturdy-sound}
 
@@ -127,20 +128,17 @@ module _ (b : TimingBank) (n i : ℕ) (e : i ≡ n) where
     kept = λ h. absurd (h (sym e ∙ z));
     state = λ h. k .is;
     still = λ h. sturdy-sound (r .bank) (k .sturdy);
-    few = k .few;
+    listed = k .listed;
   }
 
-  pub answers-not : (m : Model.Told) (r : Changed) → (i ≡ 0 → ⊥) → (r .bank ≡ b) × (r .«left_len» ≡ 0) → Answers standard n b m (Refused i) r
-  answers-not m r h k = record {
+  pub answers-not : (m : Model.Told) (r : Changed) → (i ≡ 0 → ⊥) → r ≡ untouched b → Answers standard n b m (Refused i) r
+  answers-not m r h k = subst (Answers standard n b m (Refused i)) (sym k) (record {
     says = refuses n i done e h;
-    kept = λ z. k;
+    kept = λ z. (refl, refl);
     state = λ z. absurd (h (e ∙ z));
     still = λ z. absurd (h (e ∙ z));
-    few = let q = k .1 in omega arith;
-  }
-
-pub came-left : (r : Changed) (m : Model.Told) → Came r m → Left r m
-came-left r m k = record { is = k .is; sturdy = k .sturdy; few = let f = k .few in omega arith }
+    listed = none-listed;
+  })
 
 -- ---- a switch
 module _ (b : TimingBank) (p : SpeedTracker) (serial n i : ℕ) (e : i ≡ n) (m : Steps.Taken) where

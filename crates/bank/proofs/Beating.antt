@@ -81,7 +81,7 @@ module _ (b : TimingBank) (y : Sturdy b) (p : Tracker) (side : Bool) (d s : Floa
             ∙ ap (with-parts (markScore (b .«primary_score») p d) (struck (view b .evidence) side d .streak)) (k .gaps),
         record {
           steady = record {
-            some = t .some;
+            wideEnough = t .wideEnough;
             wide = t .wide;
             below = t .below;
             crew = t .crew;
@@ -134,7 +134,7 @@ module _ (b : TimingBank) (y : Sturdy b) (p : Tracker) (d s g : Float) (i : In d
   before-steady =
       let t = y .steady in
       record {
-        some = t .some;
+        wideEnough = t .wideEnough;
         wide = t .wide;
         below = t .below;
         crew = t .crew;

@@ -73,9 +73,9 @@ module _ (w v : ℕ) (s : Bool) (crew : List TimingHypothesis) (streak gaps : Li
 
   bare-sturdy : 1 ≤ v → v ≤ widest → length crew ≡ widest → length streak ≡ 4 → length gaps ≡ 4 → length log ≡ 16 → Sturdy (bare v s crew streak gaps log)
   unfolding ofBits
-  bare-sturdy some wide lc ls lg ll = record {
+  bare-sturdy wideEnough wide lc ls lg ll = record {
     steady = record {
-      some = some;
+      wideEnough = wideEnough;
       wide = wide;
       below = omega arith;
       crew = record { few = omega arith; long = lc; each = all-none Fit };
@@ -89,4 +89,4 @@ module _ (w v : ℕ) (s : Bool) (crew : List TimingHypothesis) (streak gaps : Li
   }
 
   pub begins : 1 ≤ v → v ≤ widest → length crew ≡ widest → length streak ≡ 4 → length gaps ≡ 4 → length log ≡ 16 → (view (bare v s crew streak gaps log) ≡ freshBank w s) × Sturdy (bare v s crew streak gaps log)
-  begins some wide lc ls lg ll = (bare-view, bare-sturdy some wide lc ls lg ll)
+  begins wideEnough wide lc ls lg ll = (bare-view, bare-sturdy wideEnough wide lc ls lg ll)

@@ -5,7 +5,7 @@ use mathlib.Core.List.{List, [], map}
 use Prim.Native.Nat.{ℕ, _≤_, _<_}
 use native.Mathlib.Omega.{arith}
 use lib.Dec.{leb}
-use lib.ListN.{length, take}
+use lib.ListN.{length, take, length-map}
 use lib.Ieee.{Float, binary32, ofBits}
 use Rattle.ranges.specs.Limits.{nought, durationMin, durationMax}
 use Rattle.ranges.specs.Interval.{AllIn}
@@ -18,8 +18,12 @@ use Rattle.rival.specs.declared.TimingHypothesis.{TimingHypothesis}
 use Rattle.bank.specs.declared.Changed.{Changed}
 use Rattle.bank.specs.View.{view, told}
 use Rattle.rival.specs.Parts.{Fit}
-use Rattle.bank.specs.Parts.{Sturdy}
-use Rattle.bank.proofs.Lists.{all-none}
+use Rattle.rival.specs.View.{viewHyp}
+use Rattle.bank.specs.Parts.{mostLeft, padded, Sturdy, Left}
+use Rattle.bank.proofs.Lists.{all-none, view-length}
+use Rattle.bank.proofs.Stock.{room}
+use Rattle.bank.proofs.Padding.{those, all-listed}
+use Rattle.bank.proofs.Leaving.{crew-few}
 
 -- an empty bank
 abbrev pub blank : TimingBank → TimingBank
@@ -61,9 +65,9 @@ blank-sturdy b s =
     let t = s .steady in
     record {
       steady = record {
-        some = t .some;
+        wideEnough = t .wideEnough;
         wide = t .wide;
-        below = let k = t .some in omega arith;
+        below = let k = t .wideEnough in omega arith;
         crew = record { few = omega arith; long = t .crew .long; each = all-none Fit };
         score = zero-in;
         gapScore = zero-in;
@@ -81,7 +85,21 @@ pub clear-by : (b : Bank) (w : Bool) → leb 2 (b .width) ≡ w → by b w ≡ c
 unfolding clear
 clear-by b w e = ap (by b) (sym e)
 
-pub cleared-told : (b : TimingBank) (left : List Departure) → (take (b .«challengers_len») left ≡ map goneCleared (view b .challengers)) × (length left ≡ 9) → leb 2 (b .width) ≡ true → told (record { bank = blank b; left = left; «left_len» = b .«challengers_len» }) ≡ clear (view b)
-cleared-told b left e w =
-    ap (λ (m : Bank). record { bank = m; left = take (b .«challengers_len») left }) (blank-view b)
-    ∙ ap (λ (l : List Departure). record { bank = clearedOut (view b); left = l }) (e .0) ∙ clear-by (view b) true w
+module _ (b : TimingBank) (s : Sturdy b) (left : List Departure) (e : left ≡ padded mostLeft (map goneCleared (view b .challengers))) where
+  abbrev gone : List Departure
+  gone = map goneCleared (view b .challengers)
+
+  many : b .«challengers_len» ≡ length gone
+  many = sym (length-map (view b .challengers) goneCleared ∙ view-length viewHyp (b .«challengers_len») (b .challengers) (room (b .«challengers_len») (b .challengers) (s .steady .crew)))
+
+  few : length gone ≤ mostLeft
+  few = let k = crew-few b (s .steady) in let m = many in omega arith
+
+  told-cleared : leb 2 (b .width) ≡ true → told (record { bank = blank b; left = left; «left_len» = b .«challengers_len» }) ≡ clear (view b)
+  told-cleared w =
+      ap (λ (m : Bank). record { bank = m; left = take (b .«challengers_len») left }) (blank-view b)
+      ∙ ap (λ (l : List Departure). record { bank = clearedOut (view b); left = l }) (those left (b .«challengers_len») gone e many few)
+      ∙ clear-by (view b) true w
+
+  pub cleared-left : leb 2 (b .width) ≡ true → Left (record { bank = blank b; left = left; «left_len» = b .«challengers_len» }) (clear (view b))
+  cleared-left w = record { is = told-cleared w; sturdy = blank-sturdy b s; listed = all-listed left (b .«challengers_len») gone e many few }

@@ -25,27 +25,21 @@ use Rattle.bank.specs.declared.Changed.{Changed}
 use Rattle.rival.specs.View.{viewHyp}
 use Rattle.bank.specs.View.{viewAll, view, told}
 use Rattle.rival.specs.Parts.{Fit}
-use Rattle.bank.specs.Parts.{All, widest, Crew, Sturdy, Came}
+use Rattle.bank.specs.Parts.{All, widest, mostLeft, padded, untouched, Crew, Sturdy, Left}
 use Rattle.bank.proofs.Lists.{all-append, put-at-end, map-set, map-snoc, view-length, view-at}
 use Rattle.bank.proofs.Stock.{room, crew-set}
+use Rattle.bank.proofs.Padding.{pad-put, those, all-listed, untouched-left}
 
 pub elem : {A : Type 0} (l : List A) (i : ℕ) (z : A) → i < length l → getElem? l i ≡ some (getD l i z)
 elem [] i z h = absurd (omega arith)
 elem (x ∷ xs) zero z h = refl
 elem (x ∷ xs) (suc i) z h = elem xs i z (omega arith)
 
-abbrev Same : TimingBank → Changed → Type 0
-Same b r = ((r .bank ≡ b) × (r .«left_len» ≡ 0)) × (length (r .left) ≡ 9)
+pub unchanged-is : (b : TimingBank) (r : Changed) → r ≡ untouched b → told r ≡ stay (view b)
+unchanged-is b r e = ap told e
 
-pub unchanged-is : (b : TimingBank) (r : Changed) → Same b r → told r ≡ stay (view b)
-unchanged-is b r e =
-    ap (λ (x : TimingBank). record { bank = view x; left = take (r .«left_len») (r .left) }) (e .0 .0)
-    ∙ ap (λ (n : ℕ). record { bank = view b; left = take n (r .left) }) (e .0 .1)
-
-pub unchanged-came : (b : TimingBank) (r : Changed) → Same b r → Sturdy b → Came r (stay (view b))
-unchanged-came b r e s =
-    let z = e .0 .1 in
-    record { is = unchanged-is b r e; sturdy = subst Sturdy (sym (e .0 .0)) s; few = omega arith; room = e .1 }
+pub unchanged-left : (b : TimingBank) (r : Changed) → r ≡ untouched b → Sturdy b → Left r (stay (view b))
+unchanged-left b r e s = subst (λ (x : Changed). Left x (stay (view b))) (sym e) (untouched-left b s)
 
 -- a bank with other challengers, one more started
 abbrev pub enrolled : TimingBank → List TimingHypothesis → ℕ → ℕ → TimingBank
@@ -78,35 +72,35 @@ module _ (b : TimingBank) (s : Sturdy b) where
   enrolled-sturdy l n m w h k =
       let t = s .steady in
       record {
-        steady = record { some = t .some; wide = t .wide; below = h; crew = w; score = t .score; gapScore = t .gapScore; streaks = t .streaks; lastGap = t .lastGap; log = t .log };
+        steady = record { wideEnough = t .wideEnough; wide = t .wide; below = h; crew = w; score = t .score; gapScore = t .gapScore; streaks = t .streaks; lastGap = t .lastGap; log = t .log };
         pending = λ e. let p = s .pending e in omega arith;
       }
 
-  pub push-came : (h : TimingHypothesis) (m : ℕ) (r : Changed) → Fit h → m ≡ following (b .started) → b .«challengers_len» + 1 < b .width
-      → Same (enrolled b (set (b .challengers) (b .«challengers_len») h) (b .«challengers_len» + 1) m) r → Came r (pushed (view b) (viewHyp h))
-  push-came h m r f em lt e =
+  pub push-left : (h : TimingHypothesis) (m : ℕ) (r : Changed) → Fit h → m ≡ following (b .started) → b .«challengers_len» + 1 < b .width
+      → r ≡ untouched (enrolled b (set (b .challengers) (b .«challengers_len») h) (b .«challengers_len» + 1) m) → Left r (pushed (view b) (viewHyp h))
+  push-left h m r f em lt e =
       let n = b .«challengers_len» in
       let l = b .challengers in
       let w = s .steady .wide in
       let k = s .steady .crew .long in
       let at-end : take (n + 1) (set l n h) ≡ take n l ++ (h ∷ []) = put-at-end l n h (omega arith) in
       let crew : Crew (n + 1) (set l n h) = record { few = omega arith; long = length-set l n h ∙ k; each = subst (All Fit) (sym at-end) (all-append Fit (take n l) h (s .steady .crew .each) f) } in
-      let z = e .0 .1 in
+      let u = unchanged-left _ r e (enrolled-sturdy (set l n h) (n + 1) m crew lt (omega arith)) in
       record {
         is =
-            unchanged-is _ r e ∙ ap (λ (x : ℕ). stay (view (enrolled b (set l n h) (n + 1) x))) em
+            u .is ∙ ap (λ (x : ℕ). stay (view (enrolled b (set l n h) (n + 1) x))) em
             ∙ ap (λ (x : List Hyp). stay (withNew (view b) x)) (ap (map viewHyp) at-end ∙ map-snoc viewHyp (take n l) h);
-        sturdy = subst Sturdy (sym (e .0 .0)) (enrolled-sturdy (set l n h) (n + 1) m crew lt (omega arith));
-        few = omega arith;
-        room = e .1;
+        sturdy = u .sturdy;
+        listed = u .listed;
       }
 
-  pub replace-came : (h z : TimingHypothesis) (i m : ℕ) (q : Float) (left : List Departure) → Fit h → m ≡ following (b .started) → i < b .«challengers_len» → length left ≡ 9
-      → Came (record { bank = enrolled b (set (b .challengers) i h) (b .«challengers_len») m; left = set left 0 (record { serial = getD (b .challengers) i z .serial; cause = Replaced }); «left_len» = 1 }) (replacing (view b) (viewHyp h) (place (Found i q)))
-  replace-came h z i m q left f em lt r =
+  pub replace-left : (h z : TimingHypothesis) (i m : ℕ) (q : Float) (left : List Departure) → Fit h → m ≡ following (b .started) → i < b .«challengers_len» → left ≡ padded mostLeft []
+      → Left (record { bank = enrolled b (set (b .challengers) i h) (b .«challengers_len») m; left = set left 0 (record { serial = getD (b .challengers) i z .serial; cause = Replaced }); «left_len» = 1 }) (replacing (view b) (viewHyp h) (place (Found i q)))
+  replace-left h z i m q left f em lt r =
       let n = b .«challengers_len» in
       let l = b .challengers in
       let d : Departure = record { serial = getD l i z .serial; cause = Replaced } in
+      let put : set left 0 d ≡ padded mostLeft (d ∷ []) = ap (λ (x : List Departure). set x 0 d) r ∙ pad-put mostLeft [] d (omega arith) in
       let w = s .steady .crew in
       let v = view-length viewHyp n l (room n l w) in
       let found : getElem? (viewAll n l) i ≡ some (viewHyp (getD l i z)) = elem (viewAll n l) i (viewHyp z) (omega arith) ∙ ap some (view-at viewHyp n l i z lt) in
@@ -114,16 +108,11 @@ module _ (b : TimingBank) (s : Sturdy b) where
         is =
             ap (λ (x : ℕ). record { bank = view (enrolled b (set l i h) n x); left = take 1 (set left 0 d) }) em
             ∙ ap (λ (x : List Hyp). record { bank = withNew (view b) x; left = take 1 (set left 0 d) }) (ap (map viewHyp) (take-set-lt n l i h lt) ∙ map-set viewHyp (take n l) i h)
-            ∙ ap (λ (x : List Departure). record { bank = withNew (view b) (set (viewAll n l) i (viewHyp h)); left = x }) (first left d r)
+            ∙ ap (λ (x : List Departure). record { bank = withNew (view b) (set (viewAll n l) i (viewHyp h)); left = x }) (those (set left 0 d) 1 (d ∷ []) put refl (omega arith))
             ∙ ap (replacedBy (view b) (viewHyp h) i) (sym found);
         sturdy = enrolled-sturdy (set l i h) n m (crew-set n l i h f w) (s .steady .below) (omega arith);
-        few = omega arith;
-        room = length-set left 0 d ∙ r;
+        listed = all-listed (set left 0 d) 1 (d ∷ []) put refl (omega arith);
       }
-    where
-      first : (left : List Departure) (d : Departure) → length left ≡ 9 → take 1 (set left 0 d) ≡ d ∷ []
-      first [] d r = absurd (omega arith)
-      first (x ∷ xs) d r = refl
 
   -- ---- the choices of `spawn`
   module _ (lo hi : Float) (o : Origin) (t : Tracker) (tl th : Float) (el : tl ≡ lnDit t) (eh : th ≡ lnDah t) where
@@ -147,5 +136,5 @@ module _ (b : TimingBank) (s : Sturdy b) where
   pub roomy-no : b .width ≤ b .«challengers_len» + 1 → roomy (view b) ≡ false
   roomy-no h = let k = size in le-ltb (length (view b .challengers) + 1) (b .width) (omega arith)
 
-pub came-as : (r : Changed) (m m' : Told) → m ≡ m' → Came r m → Came r m'
-came-as r m m' e k = subst (Came r) e k
+pub left-as : (r : Changed) (m m' : Told) → m ≡ m' → Left r m → Left r m'
+left-as r m m' e k = subst (Left r) e k

@@ -189,7 +189,7 @@ module _ (b : TimingBank) (s : Sturdy b) (i : ℕ) (lt : i < b .«challengers_le
             ∙ ap (taking exchanged (view b) (Tracked.view p) serial i) (sym found);
         sturdy = subst (λ (x : TimingBank). Sturdy (Out x f)) (sym (k .same)) (record {
           steady = record {
-            some = t .some;
+            wideEnough = t .wideEnough;
             wide = t .wide;
             below = t .below;
             crew = crew-set len (b .challengers) i f (ef .1) (t .crew);
@@ -216,7 +216,7 @@ module _ (b : TimingBank) (s : Sturdy b) (i : ℕ) (lt : i < b .«challengers_le
       let t = s .steady in (
         noted-is (Tracked.view p) true e,
         record {
-          steady = record { some = t .some; wide = t .wide; below = t .below; crew = t .crew; score = t .score; gapScore = t .gapScore; streaks = t .streaks; lastGap = t .lastGap; log = t .log };
+          steady = record { wideEnough = t .wideEnough; wide = t .wide; below = t .below; crew = t .crew; score = t .score; gapScore = t .gapScore; streaks = t .streaks; lastGap = t .lastGap; log = t .log };
           pending = λ e. absurd (false≢true e);
         },
       )
@@ -230,7 +230,7 @@ module _ (b : TimingBank) (s : Sturdy b) (i : ℕ) (lt : i < b .«challengers_le
             ∙ ap (unpended (view b) (set (view b .challengers) i (reporting (viewHyp it)))) (k .is)
             ∙ noted-is (Tracked.view p) false e,
         subst (λ (x : TimingBank). Sturdy (noted x (set (x .challengers) i g))) (sym (k .same)) (record {
-          steady = record { some = t .some; wide = t .wide; below = t .below; crew = crew-set len (b .challengers) i g (eg .1) (t .crew); score = t .score; gapScore = t .gapScore; streaks = t .streaks; lastGap = t .lastGap; log = k .log };
+          steady = record { wideEnough = t .wideEnough; wide = t .wide; below = t .below; crew = crew-set len (b .challengers) i g (eg .1) (t .crew); score = t .score; gapScore = t .gapScore; streaks = t .streaks; lastGap = t .lastGap; log = k .log };
           pending = λ e. absurd (false≢true e);
         }),
       )

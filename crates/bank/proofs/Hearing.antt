@@ -5,12 +5,16 @@ use mathlib.Core.List.{List, [], _∷_, _++_, map}
 use mathlib.Core.Option.{Option, none, some}
 use Prim.Native.Nat.{ℕ, _+_, _≤_, _<_}
 use lib.Dec.{T, leb}
-use lib.ListN.{take}
+use native.Mathlib.Omega.{arith}
+use lib.ListN.{length, take}
 use lib.Ieee.{Float}
 use Rattle.ranges.specs.Settings.{standard}
 use Rattle.ranges.specs.Limits.{nought, scoreMin, durationMin, durationMax}
 use Rattle.ranges.specs.Interval.{In}
+use Rattle.ranges.proofs.Standard.{standard-good}
+use Rattle.tracker.specs.declared.SpeedTracker.{SpeedTracker}
 use Rattle.tracker.specs.Model.{Tracker}
+use Rattle.tracker.specs.Model as Tracked
 use Rattle.tracker.specs.Steps.{ditEstimate}
 use Rattle.numbers.specs.Log.{lnOf}
 use Rattle.bank_model.specs.declared.Departure.{Departure}
@@ -18,10 +22,12 @@ use Rattle.bank_model.specs.Model.{Hyp, Evidence, Bank, Told, stay, andThen, wi
 use Rattle.bank_model.specs.Scores.{lnDit, lnDah, markFit, decayed, markScore, gapScore}
 use Rattle.bank_model.specs.Steps.{marked, gapped, pausing, pausingAt, heldGapOut, heardGap, onGap, scored, streaked, streakAt, high, markedTold, prunedAt, qualified, leading, heardMark, onMark}
 use Rattle.bank_model.proofs.Scoring.{mark-score-in, gap-score-in}
+use Rattle.bank_model.proofs.Departing.{few-heard}
+use Rattle.bank.proofs.Leaving.{sift-many, crew-few}
 use Rattle.bank.specs.declared.TimingBank.{TimingBank}
 use Rattle.bank.specs.declared.Changed.{Changed}
 use Rattle.bank.specs.View.{given, view, told}
-use Rattle.bank.specs.Parts.{GapIn, restocked, Restocked, Sturdy, Came}
+use Rattle.bank.specs.Parts.{mostLeft, GapIn, restocked, Restocked, Sturdy, Left}
 
 -- a bank with other scores, held gap and counts
 abbrev pub heardBank : TimingBank → Float → Float → Bool → Float → ℕ → ℕ → TimingBank
@@ -70,7 +76,7 @@ module _ (b : TimingBank) (y : Sturdy b) where
       let t = y .steady in
       subst (λ (x : TimingBank). Sturdy (heardBank x s g has last m n)) (sym (k .same))
       (record {
-        steady = record { some = t .some; wide = t .wide; below = t .below; crew = k .crew; score = is; gapScore = ig; streaks = t .streaks; lastGap = il; log = t .log };
+        steady = record { wideEnough = t .wideEnough; wide = t .wide; below = t .below; crew = k .crew; score = is; gapScore = ig; streaks = t .streaks; lastGap = il; log = t .log };
         pending = y .pending;
       })
 
@@ -81,7 +87,7 @@ module _ (b : TimingBank) (y : Sturdy b) where
       let t = y .steady in (
         refl,
         record {
-          steady = record { some = t .some; wide = t .wide; below = t .below; crew = t .crew; score = t .score; gapScore = t .gapScore; streaks = t .streaks; lastGap = λ e. absurd (false≢true e); log = t .log };
+          steady = record { wideEnough = t .wideEnough; wide = t .wide; below = t .below; crew = t .crew; score = t .score; gapScore = t .gapScore; streaks = t .streaks; lastGap = λ e. absurd (false≢true e); log = t .log };
           pending = y .pending;
         },
       )
@@ -146,6 +152,20 @@ module _ (b c : TimingBank) (p : Tracker) (lo hi d : Float) (live : Bool) (ec : 
       ∙ ap (λ (z : Float). streakAt standard (scored standard (view b) p d live) (lnDit p) z side d gap) eh
       ∙ ap (λ (z : Bool). streakAt standard (scored standard (view b) p d live) (lnDit p) (lnDah p) z d gap) es
       ∙ ap (λ (z : Bool). by z (scored standard (view b) p d live)) (sym e)
+
+-- those that leave at a mark find their places
+pub few-marked : (b : TimingBank) → Sturdy b → (p : SpeedTracker) (lo hi d : Float) (live : Bool) (t : Changed) → lo ≡ lnDit (Tracked.view p) → hi ≡ lnDah (Tracked.view p)
+    → told t ≡ markedTold standard (view b) (Tracked.view p) d live → length (andThen (told t) (prunedAt standard lo hi) .left) ≤ mostLeft
+few-marked b s p lo hi d live t el eh et =
+    let q = Tracked.view p in
+    let n = few-heard standard standard-good (view b) (s .steady .score) q d live in
+    let k = crew-few b (s .steady) in
+    let m = sift-many b (s .steady) in
+    let e : andThen (told t) (prunedAt standard lo hi) ≡ andThen (markedTold standard (view b) q d live) (prunedAt standard (lnDit q) (lnDah q)) =
+    ap (λ (x : Told). andThen x (prunedAt standard lo hi)) et
+    ∙ ap (λ (z : Float). andThen (markedTold standard (view b) q d live) (prunedAt standard z hi)) el
+    ∙ ap (λ (z : Float). andThen (markedTold standard (view b) q d live) (prunedAt standard (lnDit q) z)) eh in
+    subst (λ (x : Told). length (x .left) ≤ mostLeft) (sym e) (omega arith)
 
 -- scored, pruned and chosen
 pub mark-told : (b : Bank) (p : Tracker) (lo hi d : Float) (live : Bool) (t : Changed) (u : Told) → lo ≡ lnDit p → hi ≡ lnDah p → told t ≡ markedTold standard b p d live → u ≡ leading standard (andThen (told t) (prunedAt standard lo hi)) → u ≡ heardMark standard b p d live

@@ -7,7 +7,7 @@ use Prim.Native.Nat.{ℕ, zero, suc, _+_, _≤_, _<_}
 use native.Mathlib.Numerals.{add-one}
 use native.Mathlib.Nat.{add-zero}
 use native.Mathlib.Omega.{arith}
-use lib.ListN.{length, take, drop, getD, set, length-set, length-map, List·getD-map}
+use lib.ListN.{length, take, drop, getD, set, length-set, length-map, length-append, List·getD-map}
 use lib.Seq.{take-suc, drop-set-lt, getD-take, take-all, drop-drop, getD-drop}
 use Rattle.ranges.specs.Settings.{standard}
 use lib.Ieee.{Float}
@@ -19,15 +19,17 @@ use Rattle.bank_model.specs.declared.Departure.{Departure}
 use Rattle.bank_model.specs.Model.{Hyp, Bank, Told, andThen, withChallengers}
 use Rattle.bank_model.specs.Steps.{Before, place, higher, highestFrom, causeAt, stayIf, leaveIf, staying, leaving, prunedAt, led, qualifies, qualified, leading, goneCleared}
 use Rattle.bank_model.proofs.Places.{highest-before}
+use Rattle.bank_model.proofs.Departing.{few-leaving}
 use Rattle.rival.specs.declared.TimingHypothesis.{TimingHypothesis}
 use Rattle.bank.specs.declared.TimingBank.{TimingBank}
 use Rattle.bank.specs.declared.Changed.{Changed}
 use Rattle.rival.specs.View.{viewHyp}
 use Rattle.bank.specs.View.{given, viewAll, view, told}
 use Rattle.rival.specs.Parts.{isNone, Fit}
-use Rattle.bank.specs.Parts.{All, widest, Crew, restocked, Steady, Sturdy, Left, isFound, placeOr}
+use Rattle.bank.specs.Parts.{All, widest, mostLeft, padded, Listed, Crew, restocked, Steady, Sturdy, Left, isFound, placeOr}
 use Rattle.bank.proofs.Lists.{all-at, all-append, all-none, put-at-end, append-nil, map-snoc, view-length, view-at}
 use Rattle.bank.proofs.Stock.{member, room}
+use Rattle.bank.proofs.Padding.{pad-length, pad-put, those, all-listed, listed-length}
 
 -- ---- one more at the end
 next : (l : List Hyp) (i : ℕ) (z : Hyp) → i < length l → take (i + 1) l ≡ take i l ++ (getD l i z ∷ [])
@@ -87,37 +89,62 @@ none-found : (q : Hyp → Bool) → Unfound ≡ highestFrom q 0 Unfound []
 unfolding highestFrom
 none-found q = refl
 
+-- ---- how many of the first i leave
+module _ (f : Hyp → Option Cause) where
+  some-leave : (o : Option Cause) (h : Hyp) (a b : List Departure) → length a ≤ length b → length (leaveIf o h a) ≤ length (leaveIf o h b)
+  some-leave none h a b e = e
+  some-leave (some c) h a b e = omega arith
+
+  pub part-leaves : (l : List Hyp) (i : ℕ) → length (leaving f (take i l)) ≤ length (leaving f l)
+  unfolding leaving
+  part-leaves l zero = omega arith
+  part-leaves [] (suc i) = omega arith
+  part-leaves (h ∷ l) (suc i) = some-leave (f h) h (leaving f (take i l)) (leaving f l) (part-leaves l i)
+
+  one-leaves : (o : Option Cause) (h : Hyp) → isNone o ≡ false → length (leaveIf o h []) ≡ 1
+  one-leaves none h e = absurd (true≢false e)
+  one-leaves (some c) h e = refl
+
+  pub room-to-leave : (l : List Hyp) (i : ℕ) (z x : Hyp) → i < length l → getD l i z ≡ x → isNone (f x) ≡ false → length (leaving f (take i l)) + 1 ≤ length (leaving f l)
+  room-to-leave l i z x h e n =
+      let a = ap length (leave-next f l i z x h e) in
+      let b = length-append (leaving f (take i l)) (leaveIf (f x) x []) in
+      let d = one-leaves (f x) x n in
+      let k = part-leaves l (i + 1) in
+      omega arith
+
 -- ---- the loop: of the crowd, i were looked at, w of them stay, each sent through u, and g left, g₀ of them before; best is the choice among those that q picks
 module _ (f : Hyp → Option Cause) (u : Hyp → Hyp) (q : Hyp → Bool) (crowd : List Hyp) (b : TimingBank) (gone₀ : List Departure) (g₀ : ℕ) where
   pub record Sifting (c : TimingBank) (gone : List Departure) (g : ℕ) (best : Best) (w i : ℕ) : Type 0 where
     pub upto : i ≤ b .«challengers_len»
-    pub sum : g + w ≡ g₀ + i
     pub behind : w ≤ i
     pub same : c ≡ restocked b (c .challengers)
     pub front : viewAll w (c .challengers) ≡ map u (staying f (take i crowd))
     pub choice : best ≡ highestFrom q 0 Unfound (viewAll w (c .challengers))
     pub rest : drop i (c .challengers) ≡ drop i (b .challengers)
-    pub left : take g gone ≡ take g₀ gone₀ ++ leaving f (take i crowd)
+    pub left : gone ≡ padded mostLeft (take g₀ gone₀ ++ leaving f (take i crowd))
+    pub told : g ≡ length (take g₀ gone₀ ++ leaving f (take i crowd))
     pub long : length (c .challengers) ≡ widest
-    pub space : length gone ≡ 9
-    pub few : g₀ ≤ 1
+    pub space : length (take g₀ gone₀ ++ leaving f crowd) ≤ mostLeft
     pub fine : All Fit (take w (c .challengers))
     pub steady : Steady b
     pub many : length crowd ≡ b .«challengers_len»
 
-  pub sift-begins : length crowd ≡ b .«challengers_len» → Steady b → g₀ ≤ 1 → length gone₀ ≡ 9 → Sifting b gone₀ g₀ Unfound 0 0
+  no-more : take g₀ gone₀ ++ leaving f (take 0 crowd) ≡ take g₀ gone₀
+  no-more = ap (λ (l : List Departure). take g₀ gone₀ ++ l) (none-leave f) ∙ append-nil (take g₀ gone₀)
+
+  pub sift-begins : length crowd ≡ b .«challengers_len» → Steady b → Listed gone₀ g₀ → length (take g₀ gone₀ ++ leaving f crowd) ≤ mostLeft → Sifting b gone₀ g₀ Unfound 0 0
   sift-begins y s k r = record {
     upto = omega arith;
-    sum = refl;
     behind = omega arith;
     same = refl;
     front = sym (ap (map u) (none-stay f));
     choice = none-found q;
     rest = refl;
-    left = sym (ap (λ (l : List Departure). take g₀ gone₀ ++ l) (none-leave f) ∙ append-nil (take g₀ gone₀));
+    left = k .whole ∙ ap (padded mostLeft) (sym no-more);
+    told = sym (ap length no-more ∙ listed-length gone₀ g₀ k);
     long = s .crew .long;
     space = r;
-    few = k;
     fine = all-none Fit;
     steady = s;
     many = y;
@@ -177,12 +204,13 @@ module _ (f : Hyp → Option Cause) (u : Hyp → Hyp) (q : Hyp → Bool) (crowd 
         pub sift-keeps : (best' : Best) → best' ≡ cond (q (viewHyp e)) (higher w (e .score) best) best → Sifting (restocked c more) gone g best' (w + 1) (i + 1)
         sift-keeps best' y =
             let m = k .behind in
-            let j = k .sum in
             let none-is = no-cause (f (viewHyp it)) t in
             let s : List Hyp = staying f (take i crowd) in
+            let as-many : take g₀ gone₀ ++ leaving f (take i crowd) ≡ take g₀ gone₀ ++ leaving f (take (i + 1) crowd) =
+            ap (λ (l : List Departure). take g₀ gone₀ ++ l)
+            (sym (append-nil (leaving f (take i crowd))) ∙ ap (λ (x : Option Cause). leaving f (take i crowd) ++ leaveIf x (viewHyp it) []) (sym none-is) ∙ sym (leave-next f crowd i o (viewHyp it) size seen)) in
             record {
               upto = omega arith;
-              sum = omega arith;
               behind = omega arith;
               same = ap (λ (x : TimingBank). restocked x more) (k .same);
               front =
@@ -190,27 +218,37 @@ module _ (f : Hyp → Option Cause) (u : Hyp → Hyp) (q : Hyp → Bool) (crowd 
                   ∙ sym (map-snoc u s (viewHyp it)) ∙ ap (map u) (stays t);
               choice = chosen best' y;
               rest = drop-set-lt (i + 1) (c .challengers) w e (omega arith) ∙ after;
-              left =
-                  k .left ∙ ap (λ (l : List Departure). take g₀ gone₀ ++ l)
-                  (sym (append-nil (leaving f (take i crowd))) ∙ ap (λ (x : Option Cause). leaving f (take i crowd) ++ leaveIf x (viewHyp it) []) (sym none-is) ∙ sym (leave-next f crowd i o (viewHyp it) size seen));
+              left = k .left ∙ ap (padded mostLeft) as-many;
+              told = k .told ∙ ap length as-many;
               long = length-set (c .challengers) w e ∙ k .long;
               space = k .space;
-              few = k .few;
               fine = subst (All Fit) (sym at-end) (all-append Fit (take w (c .challengers)) e (k .fine) (r .1));
               steady = k .steady;
               many = k .many;
             }
 
+      -- one that leaves has a place among those that left
+      pub sift-room : isNone (f (viewHyp it)) ≡ false → (g < mostLeft) × (length gone ≡ mostLeft)
+      sift-room n =
+          let a = length-append (take g₀ gone₀) (leaving f (take i crowd)) in
+          let b = length-append (take g₀ gone₀) (leaving f crowd) in
+          let d = room-to-leave f crowd i o (viewHyp it) size seen n in
+          let e = k .told in
+          let j = k .space in
+          (omega arith, ap length (k .left) ∙ pad-length mostLeft _)
+
       pub sift-drops : (y : Cause) → some y ≡ f (viewHyp it) → Sifting c (set gone g (record { serial = it .serial; cause = y })) (g + 1) best w (i + 1)
       sift-drops y e =
-          let n = k .steady .crew .few in
-          let m = k .few in
-          let j = k .sum in
-          let l = k .space in
           let d : Departure = record { serial = it .serial; cause = y } in
+          let were : List Departure = take g₀ gone₀ ++ leaving f (take i crowd) in
+          let r = sift-room (ap isNone (sym e)) .0 in
+          let q = k .told in
+          let one-more : were ++ (d ∷ []) ≡ take g₀ gone₀ ++ leaving f (take (i + 1) crowd) =
+          append-assoc (take g₀ gone₀) (leaving f (take i crowd)) (d ∷ [])
+          ∙ ap (λ (r : List Departure). take g₀ gone₀ ++ r)
+          (ap (λ (o : Option Cause). leaving f (take i crowd) ++ leaveIf o (viewHyp it) []) e ∙ sym (leave-next f crowd i o (viewHyp it) size seen)) in
           record {
             upto = omega arith;
-            sum = omega arith;
             behind = let a = k .behind in omega arith;
             same = k .same;
             front =
@@ -220,12 +258,11 @@ module _ (f : Hyp → Option Cause) (u : Hyp → Hyp) (q : Hyp → Bool) (crowd 
             choice = k .choice;
             rest = after;
             left =
-                put-at-end gone g d (omega arith) ∙ ap (λ (r : List Departure). r ++ (d ∷ [])) (k .left) ∙ append-assoc (take g₀ gone₀) (leaving f (take i crowd)) (d ∷ [])
-                ∙ ap (λ (r : List Departure). take g₀ gone₀ ++ r)
-                (ap (λ (o : Option Cause). leaving f (take i crowd) ++ leaveIf o (viewHyp it) []) e ∙ sym (leave-next f crowd i o (viewHyp it) size seen));
+                ap (λ (j : ℕ). set gone j d) q ∙ ap (λ (x : List Departure). set x (length were) d) (k .left)
+                ∙ pad-put mostLeft were d (omega arith) ∙ ap (padded mostLeft) one-more;
+            told = ap (λ (j : ℕ). j + 1) q ∙ sym (length-append were (d ∷ [])) ∙ ap length one-more;
             long = k .long;
-            space = length-set gone g d ∙ k .space;
-            few = k .few;
+            space = k .space;
             fine = k .fine;
             steady = k .steady;
             many = k .many;
@@ -238,6 +275,20 @@ sift-many b s = view-length viewHyp (b .«challengers_len») (b .challengers) (r
 pub heard-many : (m : Hyp → Hyp) (b : TimingBank) → Steady b → length (map m (view b .challengers)) ≡ b .«challengers_len»
 heard-many m b s = length-map (view b .challengers) m ∙ sift-many b s
 
+-- there are fewer challengers than the widest bank has places for
+pub crew-few : (b : TimingBank) → Steady b → b .«challengers_len» ≤ mostLeft
+crew-few b s =
+    let w = s .wide in
+    let k = s .below in
+    omega arith
+
+-- as many as there are challengers may leave
+pub few-heard : (f : Hyp → Option Cause) (b : TimingBank) (crowd : List Hyp) → Steady b → length crowd ≡ b .«challengers_len» → length (leaving f crowd) ≤ mostLeft
+few-heard f b crowd s e =
+    let n = few-leaving f crowd in
+    let k = crew-few b s in
+    omega arith
+
 module _ (f : Hyp → Option Cause) (u : Hyp → Hyp) (q : Hyp → Bool) (b : TimingBank) (gone₀ : List Departure) (g₀ : ℕ) (c : TimingBank) (gone : List Departure) (g : ℕ) (best : Best) (w i : ℕ) (z : TimingHypothesis) where
   abbrev it : TimingHypothesis
   it = getD (c .challengers) i z
@@ -249,6 +300,9 @@ module _ (f : Hyp → Option Cause) (u : Hyp → Hyp) (q : Hyp → Bool) (b : Ti
 
     pub keeps-here : (e : TimingHypothesis) → (viewHyp e ≡ u (viewHyp it)) × Fit e → isNone (f (viewHyp it)) ≡ true → (best' : Best) → best' ≡ cond (q (viewHyp e)) (higher w (e .score) best) best → Sifting f u q (view b .challengers) b gone₀ g₀ (restocked c (set (c .challengers) w e)) gone g best' (w + 1) (i + 1)
     keeps-here = sift-keeps f u q (view b .challengers) b gone₀ g₀ c gone g best w i z k h it (viewHyp z) seen
+
+    pub room-here : isNone (f (viewHyp it)) ≡ false → (g < mostLeft) × (length gone ≡ mostLeft)
+    room-here = sift-room f u q (view b .challengers) b gone₀ g₀ c gone g best w i z k h it (viewHyp z) seen
 
     pub drops-here : (y : Cause) → some y ≡ f (viewHyp it) → Sifting f u q (view b .challengers) b gone₀ g₀ c (set gone g (record { serial = it .serial; cause = y })) (g + 1) best w (i + 1)
     drops-here = sift-drops f u q (view b .challengers) b gone₀ g₀ c gone g best w i z k h it (viewHyp z) seen
@@ -263,6 +317,9 @@ module _ (f : Hyp → Option Cause) (u : Hyp → Hyp) (q : Hyp → Bool) (b : Ti
 
     pub keeps-heard : (e : TimingHypothesis) → (viewHyp e ≡ u (viewHyp n)) × Fit e → isNone (f (viewHyp n)) ≡ true → (best' : Best) → best' ≡ cond (q (viewHyp e)) (higher w (e .score) best) best → Sifting f u q (map m (view b .challengers)) b gone₀ g₀ (restocked c (set (c .challengers) w e)) gone g best' (w + 1) (i + 1)
     keeps-heard = sift-keeps f u q (map m (view b .challengers)) b gone₀ g₀ c gone g best w i z k h n (m (viewHyp z)) heard
+
+    pub room-heard : isNone (f (viewHyp n)) ≡ false → (g < mostLeft) × (length gone ≡ mostLeft)
+    room-heard = sift-room f u q (map m (view b .challengers)) b gone₀ g₀ c gone g best w i z k h n (m (viewHyp z)) heard
 
     pub drops-heard : (y : Departure) → (y .serial ≡ n .serial) × (some (y .cause) ≡ f (viewHyp n)) → Sifting f u q (map m (view b .challengers)) b gone₀ g₀ c (set gone g y) (g + 1) best w (i + 1)
     drops-heard y e =
@@ -343,8 +400,17 @@ module _ (lo hi : Float) (crowd : List Hyp) (t : Changed) (c : TimingBank) (gone
   abbrev kept : List Hyp
   kept = map u (staying f crowd)
 
-  those : viewAll w (c .challengers) ≡ kept
-  those = k .front ∙ ap (λ (l : List Hyp). map u (staying f l)) whole
+  abbrev all-gone : List Departure
+  all-gone = take (t .«left_len») (t .left) ++ leaving f crowd
+
+  gone-is : gone ≡ padded mostLeft all-gone
+  gone-is = k .left ∙ ap (λ (l : List Hyp). padded mostLeft (take (t .«left_len») (t .left) ++ leaving f l)) whole
+
+  gone-many : g ≡ length all-gone
+  gone-many = k .told ∙ ap (λ (l : List Hyp). length (take (t .«left_len») (t .left) ++ leaving f l)) whole
+
+  they : viewAll w (c .challengers) ≡ kept
+  they = k .front ∙ ap (λ (l : List Hyp). map u (staying f l)) whole
 
   abbrev out : ℕ → Changed
   out n = record { bank = counted c w (isFound best) (placeOr n best); left = gone; «left_len» = g }
@@ -353,9 +419,10 @@ module _ (lo hi : Float) (crowd : List Hyp) (t : Changed) (c : TimingBank) (gone
   unfolding prunedAt qualified
   sift-told n =
       ap (λ (x : TimingBank). told (record { bank = counted x w (isFound best) (placeOr n best); left = gone; «left_len» = g })) (k .same)
-      ∙ ap (λ (l : List Hyp). record { bank = withChoice (view b) l (given (isFound best) (placeOr n best)); left = take g gone }) those
-      ∙ ap (λ (o : Option ℕ). record { bank = withChoice (view b) kept o; left = take g gone }) (given-place best n ∙ ap place (k .choice ∙ ap (highestFrom q 0 Unfound) those))
-      ∙ ap (λ (l : List Departure). record { bank = withChoice (view b) kept (place (highestFrom q 0 Unfound kept)); left = l }) (k .left ∙ ap (λ (l : List Hyp). take (t .«left_len») (t .left) ++ leaving f l) whole)
+      ∙ ap (λ (l : List Hyp). record { bank = withChoice (view b) l (given (isFound best) (placeOr n best)); left = take g gone }) they
+      ∙ ap (λ (o : Option ℕ). record { bank = withChoice (view b) kept o; left = take g gone }) (given-place best n ∙ ap place (k .choice ∙ ap (highestFrom q 0 Unfound) they))
+      ∙ ap (λ (l : List Departure). record { bank = withChoice (view b) kept (place (highestFrom q 0 Unfound kept)); left = l })
+      (those gone g all-gone gone-is gone-many (k .space))
 
   sift-before : Before w best
   sift-before =
@@ -376,7 +443,7 @@ module _ (lo hi : Float) (crowd : List Hyp) (t : Changed) (c : TimingBank) (gone
       let v = k .upto in
       subst (λ (x : TimingBank). Sturdy (counted x w (isFound best) (placeOr n best))) (sym (k .same)) (record {
         steady = record {
-          some = s .some;
+          wideEnough = s .wideEnough;
           wide = s .wide;
           below = omega arith;
           crew = record { few = omega arith; long = k .long; each = k .fine };
@@ -390,13 +457,7 @@ module _ (lo hi : Float) (crowd : List Hyp) (t : Changed) (c : TimingBank) (gone
       })
 
   ended : (n : ℕ) → Left (out n) (leading standard (andThen met (prunedAt standard lo hi)))
-  ended n =
-      let s = k .steady in
-      let o = s .crew .few in
-      let e = k .sum in
-      let a = k .few in
-      let v = k .upto in
-      record { is = sift-told n; sturdy = sift-sturdy n; few = omega arith }
+  ended n = record { is = sift-told n; sturdy = sift-sturdy n; listed = all-listed gone g all-gone gone-is gone-many (k .space) }
 
   abbrev Ends : Bool → ℕ → Type 0
   Ends has j = Left (record { bank = counted c w has j; left = gone; «left_len» = g }) (leading standard (andThen met (prunedAt standard lo hi)))
@@ -408,34 +469,37 @@ module _ (lo hi : Float) (crowd : List Hyp) (t : Changed) (c : TimingBank) (gone
 module _ (n : ℕ) (l : List TimingHypothesis) where
   pub record Noting (left : List Departure) (i : ℕ) : Type 0 where
     pub upto : i ≤ n
-    pub space : length left ≡ 9
+    pub most : n ≤ mostLeft
     pub crew : Crew n l
-    pub is : take i left ≡ map goneCleared (take i (viewAll n l))
+    pub is : left ≡ padded mostLeft (map goneCleared (take i (viewAll n l)))
 
-  pub note-begins : (left : List Departure) → length left ≡ 9 → Crew n l → Noting left 0
-  note-begins left r w = record { upto = omega arith; space = r; crew = w; is = refl }
+  pub note-begins : (left : List Departure) → left ≡ padded mostLeft [] → Crew n l × (n ≤ mostLeft) → Noting left 0
+  note-begins left r w = record { upto = omega arith; most = w .1; crew = w .0; is = r }
+
+  pub note-room : (left : List Departure) (i : ℕ) → Noting left i → length left ≡ mostLeft
+  note-room left i k = ap length (k .is) ∙ pad-length mostLeft _
 
   pub note-turns : (left : List Departure) (i : ℕ) (z : TimingHypothesis) → i < n → Noting left i → Noting (set left i (record { serial = getD l i z .serial; cause = Cleared })) (i + 1)
   note-turns left i z h k =
       let w = k .crew in
-      let m = w .few in
-      let r = k .space in
+      let m = k .most in
       let d : Departure = record { serial = getD l i z .serial; cause = Cleared } in
       let e = view-length viewHyp n l (room n l w) in
+      let were : List Departure = map goneCleared (take i (viewAll n l)) in
+      let size : length were ≡ i = view-length goneCleared i (viewAll n l) (omega arith) in
       record {
         upto = omega arith;
-        space = length-set left i d ∙ r;
+        most = m;
         crew = w;
         is =
-            put-at-end left i d (omega arith) ∙ ap (λ (x : List Departure). x ++ (d ∷ [])) (k .is)
-            ∙ ap (λ (y : Hyp). map goneCleared (take i (viewAll n l)) ++ (goneCleared y ∷ [])) (sym (view-at viewHyp n l i z h))
+            ap (λ (x : List Departure). set x i d) (k .is) ∙ ap (λ (j : ℕ). set (padded mostLeft were) j d) (sym size)
+            ∙ pad-put mostLeft were d (omega arith) ∙ ap (padded mostLeft)
+            (ap (λ (y : Hyp). were ++ (goneCleared y ∷ [])) (sym (view-at viewHyp n l i z h))
             ∙ sym (map-snoc goneCleared (take i (viewAll n l)) (getD (viewAll n l) i (viewHyp z)))
-            ∙ ap (map goneCleared) (sym (next (viewAll n l) i (viewHyp z) (omega arith)));
+            ∙ ap (map goneCleared) (sym (next (viewAll n l) i (viewHyp z) (omega arith))));
       }
 
-  pub note-ends : (left : List Departure) (i : ℕ) → n ≤ i → Noting left i → (take n left ≡ map goneCleared (viewAll n l)) × (length left ≡ 9)
+  pub note-ends : (left : List Departure) (i : ℕ) → n ≤ i → Noting left i → left ≡ padded mostLeft (map goneCleared (viewAll n l))
   note-ends left i h k =
-      let u = k .upto in
-      let e : n ≡ i = omega arith in
       let v = view-length viewHyp n l (room n l (k .crew)) in
-      (ap (λ (j : ℕ). take j left) e ∙ k .is ∙ ap (map goneCleared) (take-all i (viewAll n l) (omega arith)), k .space)
+      k .is ∙ ap (λ (x : List Hyp). padded mostLeft (map goneCleared x)) (take-all i (viewAll n l) (omega arith))

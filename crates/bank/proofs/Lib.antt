@@ -1,6 +1,7 @@
 pub mod Finds
 pub mod Lists
 pub mod Stock
+pub mod Padding
 pub mod Leaving
 pub mod Coming
 pub mod Choosing

@@ -170,7 +170,7 @@ module _ (b : TimingBank) where
       let o = both (score (b .«primary_score»)) (score (b .«primary_gap_score»)) (s .0) in
       record {
         steady = record {
-          some = leb→le 1 (b .width) (u .0);
+          wideEnough = leb→le 1 (b .width) (u .0);
           wide = leb→le (b .width) widest (v .0);
           below = ltb→lt (b .«challengers_len») (b .width) (v .1);
           crew = record { few = n .crew; long = lc; each = f };
@@ -219,7 +219,7 @@ module _ (b : TimingBank) where
       let crew : Bool = all (hypSound standard) (take (b .«challengers_len») (b .challengers)) in
       join (counted widest b) (widthSound widest b && (crew && restSound b)) (counts-of s)
       (join (widthSound widest b) (crew && restSound b)
-      (join (leb 1 (b .width)) (leb (b .width) widest && ltb (b .«challengers_len») (b .width)) (le→leb 1 (b .width) (k .some))
+      (join (leb 1 (b .width)) (leb (b .width) widest && ltb (b .«challengers_len») (b .width)) (le→leb 1 (b .width) (k .wideEnough))
       (join (leb (b .width) widest) (ltb (b .«challengers_len») (b .width)) (le→leb (b .width) widest (k .wide)) (lt→ltb (b .«challengers_len») (b .width) (k .below))))
       (join crew (restSound b) (all-pass (hypSound standard) Fit fit-sound (take (b .«challengers_len») (b .challengers)) (k .crew .each)) (rest-of s)))
 

@@ -73,7 +73,7 @@ module _ (b r : TimingBank) (l : List Hyp) (k : Restocked b r l) where
 
   pub restocked-steady : Steady b → Steady r
   restocked-steady s = subst Steady (sym (k .same)) (record {
-    some = s .some;
+    wideEnough = s .wideEnough;
     wide = s .wide;
     below = s .below;
     crew = k .crew;

@@ -26,7 +26,7 @@ use Rattle.bank_model.proofs.Ready.{from-ready, turned-ready}
 use Rattle.bank.specs.declared.TimingBank.{TimingBank}
 use Rattle.bank.specs.declared.Changed.{Changed}
 use Rattle.bank.specs.View.{given, view, told}
-use Rattle.bank.specs.Parts.{Streaks, GapIn, Sturdy, Came, withStreak}
+use Rattle.bank.specs.Parts.{Streaks, GapIn, Sturdy, Left, withStreak}
 use Rattle.bank.proofs.Lists.{put-at-end, append-nil}
 
 -- a bank with another streak
@@ -75,7 +75,7 @@ module _ (b : TimingBank) (s : Sturdy b) where
   stroke-sturdy streak n gaps m has side k =
       let t = s .steady in
       record {
-        steady = record { some = t .some; wide = t .wide; below = t .below; crew = t .crew; score = t .score; gapScore = t .gapScore; streaks = k; lastGap = t .lastGap; log = t .log };
+        steady = record { wideEnough = t .wideEnough; wide = t .wide; below = t .below; crew = t .crew; score = t .score; gapScore = t .gapScore; streaks = k; lastGap = t .lastGap; log = t .log };
         pending = s .pending;
       }
 

@@ -32,7 +32,7 @@ use Rattle.bank.specs.declared.Place.the-variants as Places
 use Rattle.bank.specs.declared.Logged.{Logged}
 use Rattle.bank.specs.declared.Logged.the-variants as Records
 use Rattle.bank.specs.View.{view, told}
-use Rattle.bank.specs.Parts.{widest}
+use Rattle.bank.specs.Parts.{widest, Listed}
 use Rattle.bank.specs.Sound.{sound}
 
 -- ---- the cases of each enum
@@ -163,7 +163,7 @@ pub record Answers (k : Settings) (n : ℕ) (b : TimingBank) (m : Model.Told) (w
   pub kept : (n ≡ 0 → ⊥) → (r .bank ≡ b) × (r .«left_len» ≡ 0)
   pub state : n ≡ 0 → told r ≡ m
   pub still : n ≡ 0 → T (sound k widest (r .bank))
-  pub few : r .«left_len» ≤ suc widest
+  pub listed : Listed (r .left) (r .«left_len»)
 
 -- a switch call: whether they were exchanged; the bank, the primary and its serial, as they were where it is refused
 abbrev pub taken : Switched → Bool → Steps.Taken

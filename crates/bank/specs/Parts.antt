@@ -3,12 +3,14 @@ use mathlib.Core.Path.{_≡_}
 use mathlib.Core.Bool.{Bool, true, false}
 use mathlib.Core.Option.{Option, none, some}
 use mathlib.Core.List.{List, [], _∷_}
-use Prim.Native.Nat.{ℕ, suc, _≤_, _<_}
+use Prim.Native.Nat.{ℕ, zero, suc, _-_, _≤_, _<_}
 use lib.ListN.{length, take}
 use lib.Ieee.{Float}
 use Rattle.ranges.specs.Limits.{nought, scoreMin, durationMin, durationMax}
 use Rattle.ranges.specs.Interval.{In, AllIn}
 use Rattle.bank_model.specs.declared.SwitchRecord.{SwitchRecord}
+use Rattle.bank_model.specs.declared.Cause.the-variants.{Cleared}
+use Rattle.bank_model.specs.declared.Departure.{Departure}
 use Rattle.bank_model.specs.declared.Best.{Best}
 use Rattle.bank_model.specs.declared.Best.the-variants.{Unfound, Found}
 use Rattle.rival.specs.declared.TimingHypothesis.{TimingHypothesis}
@@ -21,6 +23,29 @@ use Rattle.bank.specs.View.{viewAll, told}
 -- "the widest bank"
 abbrev pub widest : ℕ
 widest = 8
+
+-- the most that leave in one call: as many as the widest bank has challengers
+abbrev pub mostLeft : ℕ
+mostLeft = widest - 1
+
+-- what stands where no one left
+abbrev pub noOne : Departure
+noOne = record { serial = 0; cause = Cleared }
+
+-- n places: those of a list, and then no one
+unfoldable pub padded : ℕ → List Departure → List Departure
+padded zero l = []
+padded (suc n) [] = noOne ∷ padded n []
+padded (suc n) (d ∷ l) = d ∷ padded n l
+
+-- an answer's departures, an array and a count: no one stands beyond the count
+pub record Listed (left : List Departure) (n : ℕ) : Type 0 where
+  pub few : n ≤ mostLeft
+  pub whole : left ≡ padded mostLeft (take n left)
+
+-- a bank that no one left
+abbrev pub untouched : TimingBank → Changed
+untouched b = record { bank = b; left = padded mostLeft []; «left_len» = 0 }
 
 -- P holds of each
 unfoldable pub All : {A : Type 0} → (A → Type 0) → List A → Type 0
@@ -122,7 +147,7 @@ pub record Logging (b r : TimingBank) (l : List SwitchRecord) : Type 0 where
 
 -- what a sound bank has, but for its choice
 pub record Steady (b : TimingBank) : Type 0 where
-  pub some : 1 ≤ b .width
+  pub wideEnough : 1 ≤ b .width
   pub wide : b .width ≤ widest
   pub below : b .«challengers_len» < b .width
   pub crew : Crew (b .«challengers_len») (b .challengers)
@@ -137,18 +162,11 @@ pub record Sturdy (b : TimingBank) : Type 0 where
   pub steady : Steady b
   pub pending : b .«has_pending» ≡ true → b .pending < b .«challengers_len»
 
--- a bank and those that left it, at most one, as m says
-pub record Came (r : Changed) (m : Told) : Type 0 where
-  pub is : told r ≡ m
-  pub sturdy : Sturdy (r .bank)
-  pub few : r .«left_len» ≤ 1
-  pub room : length (r .left) ≡ 9
-
 -- a bank and those that left it, as m says
 pub record Left (r : Changed) (m : Told) : Type 0 where
   pub is : told r ≡ m
   pub sturdy : Sturdy (r .bank)
-  pub few : r .«left_len» ≤ suc widest
+  pub listed : Listed (r .left) (r .«left_len»)
 
 -- a bank with another streak, on a side
 abbrev pub withStreak : Bank → Bool → List Float → List Float → Bank

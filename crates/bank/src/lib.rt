@@ -1,5 +1,6 @@
 // The bank of rivals of document 01, "TimingBank".
 use bank_model::Departure;
+use bank_model::MOST_LEFT;
 use bank_model::SwitchRecord;
 use rival::TimingHypothesis;
 use tracker::Flag;
@@ -37,7 +38,7 @@ pub struct TimingBank {
 // A bank after a call, and those that left it in the call.
 pub struct Changed {
     pub bank: TimingBank,
-    pub left: [Departure; 9],
+    pub left: [Departure; MOST_LEFT],
     pub left_len: usize,
 }
 

@@ -3,3 +3,4 @@ pub mod Scoring
 pub mod Ready
 pub mod Places
 pub mod Others
+pub mod Departing

@@ -17,6 +17,9 @@ pub enum Cause {
     Cleared,
 }
 
+// The most that leave in one call: the widest bank has one challenger fewer than its width.
+pub const MOST_LEFT: usize = 7;
+
 // A hypothesis that left.
 pub struct Departure {
     pub serial: u64,

@@ -1,4 +1,5 @@
 // A bank as it is printed: its parts in order, lists with their counts before them, absent numbers left out.
+use bank_model::MOST_LEFT;
 use bank_model::SwitchRecord;
 use plain::PlainBank;
 use plain::PlainDeparture;
@@ -143,9 +144,9 @@ pub(crate) fn put_bank(b: PlainBank) {
     put_log(b);
 }
 
-fn put_departure(left: [PlainDeparture; 9], i: usize, n: usize) {
+fn put_departure(left: [PlainDeparture; MOST_LEFT], i: usize, n: usize) {
     if i < n {
-        if i < 9 {
+        if i < MOST_LEFT {
             let d = left[i];
             put_long(d.serial);
             put_code(d.cause);
@@ -154,9 +155,9 @@ fn put_departure(left: [PlainDeparture; 9], i: usize, n: usize) {
 }
 
 // Those that left.
-pub(crate) fn put_left(left: [PlainDeparture; 9], n: usize) {
+pub(crate) fn put_left(left: [PlainDeparture; MOST_LEFT], n: usize) {
     put_count(n);
-    for i in 0..9 {
+    for i in 0..MOST_LEFT {
         put_departure(left, i, n);
     }
 }

@@ -18,7 +18,7 @@ use Rattle.bank.specs.declared.Answered.{Answered}
 use Rattle.bank.specs.declared.Heard.{Heard}
 use Rattle.bank.specs.declared.Switched.{Switched}
 use Rattle.bank.specs.View.{view}
-use Rattle.bank.specs.Parts.{widest}
+use Rattle.bank.specs.Parts.{widest, mostLeft}
 use Rattle.bank.specs.Sound.{sound}
 use Rattle.bank.specs.Answers.{Answers, Hears, Started, Switches, bankThen, widthRefusal}
 use Rattle.plain.specs.declared.PlainBank.{PlainBank}
@@ -79,7 +79,7 @@ module _ (b : PlainBank) (e : isBank b ≡ true) where
         kept = λ z. (refused-with b (c .bank) (λ w. z (known n ∙ sym i ∙ w)), h .kept (λ w. z (known n ∙ w)) .1);
         state = λ z. changed-is c (done-with b (c .bank) (i ∙ sym (known n) ∙ z)) refl (h .state (sym (known n) ∙ z));
         still = λ z. well-as (c .bank) (done-with b (c .bank) (i ∙ sym (known n) ∙ z)) (h .still (sym (known n) ∙ z));
-        few = h .few;
+        few = h .listed .few;
         blank = left-blank (c .left) (c .«left_len») refl;
       }
 
@@ -107,7 +107,7 @@ module _ (b : PlainBank) (e : isBank b ≡ true) where
       }
 
 -- ---- one that is not
-pub barred-with : (b : PlainBank) {d : PlainDeparture} → d ≡ noDeparture → Refused b (record { code = 1; bank = b; left = filled d 9; «left_len» = 0 })
+pub barred-with : (b : PlainBank) {d : PlainDeparture} → d ≡ noDeparture → Refused b (record { code = 1; bank = b; left = filled d mostLeft; «left_len» = 0 })
 unfolding carried filled
 barred-with b e = record { says = refl; kept = (refl, refl); blank = rw e }
 

@@ -19,7 +19,7 @@ use Rattle.bank.specs.declared.TimingBank.{TimingBank}
 use Rattle.bank.specs.declared.Changed.{Changed}
 use Rattle.bank.specs.declared.Switched.{Switched}
 use Rattle.bank.specs.View.{view}
-use Rattle.bank.specs.Parts.{Sturdy, widest}
+use Rattle.bank.specs.Parts.{Sturdy, widest, mostLeft}
 use Rattle.bank.specs.Sound.{sound}
 use Rattle.bank.specs.Answers.{Shown, shown, nothing, barred, widthRefusal}
 use Rattle.plain.specs.declared.PlainBank.{PlainBank}
@@ -83,7 +83,7 @@ pub record BankAnswers (n : ℕ) (b : PlainBank) (m : Model.Told) (r : BankAnswe
   pub kept : (n ≡ 0 → ⊥) → (r .bank ≡ b) × (r .«left_len» ≡ 0)
   pub state : n ≡ 0 → Tells m (r .bank) (r .left) (r .«left_len»)
   pub still : n ≡ 0 → Well (r .bank)
-  pub few : r .«left_len» ≤ 9
+  pub few : r .«left_len» ≤ mostLeft
   pub blank : Blank (r .left) (r .«left_len»)
 
 -- a form that is no bank's

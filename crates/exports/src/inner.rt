@@ -1,4 +1,5 @@
 // What the layers call on a state that is known to be sound, for measuring: each function asks what it needs.
+use bank_model::MOST_LEFT;
 use plain::PlainBank;
 use plain::PlainDeparture;
 use plain::from::bank_of;
@@ -23,7 +24,7 @@ ghost use Rattle.exports.specs.Bank.{ChangedTo, Held, Neat, takenTo};
 #[repr(C)]
 pub struct BankChanged {
     pub bank: PlainBank,
-    pub left: [PlainDeparture; 9],
+    pub left: [PlainDeparture; MOST_LEFT],
     pub left_len: usize,
 }
 

@@ -11,6 +11,7 @@ use bank::Place;
 use bank::Switched;
 use bank::Tally;
 use bank::TimingBank;
+use bank_model::MOST_LEFT;
 use bank_model::SwitchRecord;
 use plain::PlainBank;
 use plain::PlainDeparture;
@@ -41,7 +42,7 @@ ghost use Rattle.exports.specs.Bank.{BankAnswers, BankHears, BankStarted
 pub struct BankAnswered {
     pub code: u8,
     pub bank: PlainBank,
-    pub left: [PlainDeparture; 9],
+    pub left: [PlainDeparture; MOST_LEFT],
     pub left_len: usize,
 }
 
@@ -215,7 +216,7 @@ pub(crate) fn unanswered(b: PlainBank) -> BankAnswered
     ensures { λ r. ⌜ Refused b r ⌝ }
 {
     let d = no_departure();
-    let left = [d; 9];
+    let left = [d; MOST_LEFT];
     BankAnswered {
         code: 1,
         bank: b,

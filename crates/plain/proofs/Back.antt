@@ -270,7 +270,7 @@ trimmed-sturdy b h =
     let s = h .steady in
     record {
       steady = record {
-        some = s .some;
+        wideEnough = s .wideEnough;
         wide = s .wide;
         below = s .below;
         crew = record {

@@ -7,6 +7,7 @@ use crate::from::no_record;
 use bank::TimingBank;
 use bank_model::Cause;
 use bank_model::Departure;
+use bank_model::MOST_LEFT;
 use bank_model::Origin;
 use bank_model::SwitchRecord;
 use plain_tracker::is::capped;
@@ -247,12 +248,12 @@ pub fn no_departure() -> PlainDeparture
 }
 
 // The first count of those that left in a call.
-pub fn plain_departures(left: [Departure; 9], count: usize) -> [PlainDeparture; 9]
+pub fn plain_departures(left: [Departure; MOST_LEFT], count: usize) -> [PlainDeparture; MOST_LEFT]
     ensures { λ r. ⌜ r ≡ carried plainDeparture noDeparture count left ⌝ }
 {
-    let n = capped(count, 9);
+    let n = capped(count, MOST_LEFT);
     let z = no_departure();
-    let mut out = [z; 9];
+    let mut out = [z; MOST_LEFT];
     let mut i: usize = 0;
     while i < n {
         let d = left[i];

@@ -17,7 +17,7 @@ use Rattle.bank_model.specs.Model.{Bank, Told, stay}
 use Rattle.bank_model.specs.Steps.{onMark, onGap, clear}
 use Rattle.bank.specs.declared.Changed.{Changed}
 use Rattle.bank.specs.View.{told}
-use Rattle.bank.specs.Parts.{Sturdy}
+use Rattle.bank.specs.Parts.{Listed, Sturdy}
 use Rattle.station_model.specs.declared.Event.{Event}
 use Rattle.station_model.specs.declared.Code.{Code}
 use Rattle.station_model.specs.declared.Code.the-variants.{Done, BecameReady, Nothing}
@@ -54,8 +54,8 @@ module _ (s : Station) (p : SpeedTracker) (serial : ℕ) (t : Changed) (code : C
     answer = record { code = code; departures = told t .left };
   }
 
-  pub accepts : (n : Counts) → T (Tracking.sound standard p) → Sturdy (t .bank) × (t .«left_len» ≤ 9) → n ≡ tallied (s .counts) (take (t .«left_len») (t .left)) → Stands (made n) (accepted (view s) asked)
-  accepts n f k e = record { is = ap says e; primary = f; bank = k .0; few = k .1 }
+  pub accepts : (n : Counts) → T (Tracking.sound standard p) → Sturdy (t .bank) × Listed (t .left) (t .«left_len») → n ≡ tallied (s .counts) (take (t .«left_len») (t .left)) → Stands (made n) (accepted (view s) asked)
+  accepts n f k e = record { is = ap says e; primary = f; bank = k .0; listed = k .1 }
 
 -- ---- what was done is what the definitions say
 

@@ -13,6 +13,7 @@ use Rattle.rival.specs.declared.TimingHypothesis.{TimingHypothesis}
 use Rattle.rival.specs.View.{viewHyp}
 use Rattle.bank.specs.Answers.{Shown, shown, nothing, barred, showing}
 use Rattle.bank.proofs.Coming.{elem}
+use Rattle.bank.proofs.Padding.{none-listed}
 use Rattle.station_model.specs.declared.Event.{Event}
 use Rattle.station_model.specs.declared.Code.the-variants.{Refused}
 use Rattle.station_model.specs.Station.{number, taken, acted, accepted}
@@ -20,7 +21,7 @@ use Rattle.station_model.specs.Station as Model
 use Rattle.station.specs.declared.Station.{Station}
 use Rattle.station.specs.declared.Outcome.{Outcome}
 use Rattle.station.specs.View.{view}
-use Rattle.station.specs.Parts.{Booked, Solid, Stands}
+use Rattle.station.specs.Parts.{Booked, Solid, Stands, noneLeft}
 use Rattle.station.specs.Sound.{sound}
 use Rattle.station.specs.Answers.{stationThen, callRefusal, Called, Glimpse, glimpse}
 use Rattle.station.proofs.Sounding.{solid-sound}
@@ -39,22 +40,22 @@ module _ (s : Station) (e : Event) (r : Outcome) (i : ℕ) (q : i ≡ callRefusa
           kept = λ h. absurd (h (sym q ∙ z));
           state = λ h. d .is ∙ step-accepted standard (view s) e (accepted-refusal s e a);
           still = λ h. solid-sound (r .station) solid;
-          few = d .few;
+          listed = d .listed;
         },
         solid,
       )
 
-  pub answers-not : (i ≡ 0 → ⊥) → (r .answer .code ≡ Refused i) × ((r .station ≡ s) × (r .answer .«left_len» ≡ 0)) → Called standard s e r
-  answers-not h k = record {
-    says = λ z. (ap taken (k .0), ap number (k .0) ∙ q);
-    kept = λ z. k .1;
+  pub answers-not : (i ≡ 0 → ⊥) → r ≡ noneLeft s (Refused i) → Called standard s e r
+  answers-not h k = subst (Called standard s e) (sym k) (record {
+    says = λ z. (refl, q);
+    kept = λ z. (refl, refl);
     state = λ z. absurd (h (q ∙ z));
     still = λ z. absurd (h (q ∙ z));
-    few = let n = k .1 .1 in omega arith;
-  }
+    listed = none-listed;
+  })
 
-  pub answers-kept : (i ≡ 0 → ⊥) → Solid s → (r .answer .code ≡ Refused i) × ((r .station ≡ s) × (r .answer .«left_len» ≡ 0)) → Called standard s e r × Solid (r .station)
-  answers-kept h k d = (answers-not h d, subst Solid (sym (d .1 .0)) k)
+  pub answers-kept : (i ≡ 0 → ⊥) → Solid s → r ≡ noneLeft s (Refused i) → Called standard s e r × Solid (r .station)
+  answers-kept h k d = (answers-not h d, subst (λ (x : Outcome). Solid (x .station)) (sym d) k)
 
 -- ---- a call that only reads
 module _ (s : Station) where

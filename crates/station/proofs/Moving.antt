@@ -3,9 +3,7 @@ use mathlib.Core.Path.{_≡_, refl, ap, sym, _∙_, subst}
 use mathlib.Core.List.{[]}
 use mathlib.Core.Option.{none}
 use Prim.Native.Nat.{ℕ, _+_}
-use native.Mathlib.Omega.{arith}
 use lib.Dec.{T}
-use lib.ListN.{take}
 use lib.Ieee.{Float}
 use Rattle.ranges.specs.Settings.{Settings, standard}
 use Rattle.tracker.specs.declared.SpeedTracker.{SpeedTracker}
@@ -17,6 +15,7 @@ use Rattle.bank_model.specs.Steps.{Taken, on, untaken, takenOf, takeSwitch}
 use Rattle.bank.specs.declared.TimingBank.{TimingBank}
 use Rattle.bank.specs.View as Banked
 use Rattle.bank.specs.Parts.{Sturdy}
+use Rattle.bank.proofs.Padding.{none-listed}
 use Rattle.station_model.specs.declared.Event.{Event}
 use Rattle.station_model.specs.declared.Code.{Code}
 use Rattle.station_model.specs.declared.Code.the-variants.{Done}
@@ -27,7 +26,7 @@ use Rattle.station_model.proofs.Lists.{by-cond}
 use Rattle.station.specs.declared.Station.{Station}
 use Rattle.station.specs.declared.Outcome.{Outcome}
 use Rattle.station.specs.View.{view}
-use Rattle.station.specs.Parts.{Allowed, Open, Solid, Stands, Steady}
+use Rattle.station.specs.Parts.{Allowed, Open, Solid, Stands, Steady, noneLeft}
 use Rattle.station.specs.After.{Holds}
 use Rattle.station.proofs.Tallying.{tallied-none}
 use Rattle.station.proofs.Sounding.{solid-sound}
@@ -49,15 +48,14 @@ unfolding takeSwitch
 idle b p n e = by-cond (λ (t : Taken). untaken b p n ≡ t) (on b) (λ x. sym (ap (takenOf b p n) e)) (λ x. refl)
 
 -- the answer of a call that none leaves at
-pub none-leave : (s t : Station) (r : Outcome) (a : Act) (c : Code) → (r .answer .code ≡ c) × ((r .station ≡ t) × (r .answer .«left_len» ≡ 0)) → Holds t (accepted (view s) a .station) → c ≡ a .code → a .told .left ≡ [] → Stands r (accepted (view s) a)
+pub none-leave : (s t : Station) (r : Outcome) (a : Act) (c : Code) → r ≡ noneLeft t c → Holds t (accepted (view s) a .station) → c ≡ a .code → a .told .left ≡ [] → Stands r (accepted (view s) a)
 none-leave s t r a c d h e f =
-    let q = d .1 .0 in
-    record {
-      is = λ i. record { station = (ap view q ∙ h .is) i; answer = record { code = (d .0 ∙ e) i; departures = (ap (λ (j : ℕ). take j (r .answer .left)) (d .1 .1) ∙ sym f) i } };
-      primary = subst (λ (x : Station). T (sound standard (x .primary))) (sym q) (h .primary);
-      bank = subst (λ (x : Station). Sturdy (x .bank)) (sym q) (h .bank);
-      few = let n = d .1 .1 in omega arith;
-    }
+    subst (λ (x : Outcome). Stands x (accepted (view s) a)) (sym d) (record {
+      is = λ i. record { station = h .is i; answer = record { code = e i; departures = sym f i } };
+      primary = h .primary;
+      bank = h .bank;
+      listed = none-listed;
+    })
 
 -- a gap is such a call, and done
 pub gap-quiet : (k : Settings) (m : Model.Station) (d : Float) → (Done ≡ gapAct k m d .code) × (gapAct k m d .told .left ≡ [])

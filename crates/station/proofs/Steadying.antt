@@ -99,5 +99,5 @@ steady-next s e r k c =
     record {
       is = w;
       steady = record { solid = c .1; unready = subst Quiet (sym (ap (λ (x : Model.Outcome). x .station) w)) (quiet-step standard (view s) (k .unready) e) };
-      few = c .0 .few;
+      listed = c .0 .listed;
     }

@@ -9,6 +9,7 @@ use lib.Seq.{take-suc, length-take-le}
 use Rattle.bank_model.specs.declared.Cause.{Cause}
 use Rattle.bank_model.specs.declared.Cause.the-variants.{Twin, Outscored, Aged, Replaced, Cleared}
 use Rattle.bank_model.specs.declared.Departure.{Departure}
+use Rattle.bank.specs.Parts.{mostLeft}
 use Rattle.station_model.specs.declared.Counts.{Counts}
 use Rattle.station_model.specs.Station.{ind, isCause, ofCause, tallied}
 use Rattle.station_model.proofs.Books.{by-cause, cause-append}
@@ -86,7 +87,7 @@ module _ (was : Counts) (left : List Departure) (n : ℕ) where
       t .is ∙ ap (λ (j : ℕ). tallied was (take j left)) e
 
   -- the counts stay far below the largest u64
-  pub tally-small : (c : Counts) (i : ℕ) → n ≤ 9 → n ≤ length left → AtMost 4294967296 was → Tallying c i → AtMost 8589934592 c
+  pub tally-small : (c : Counts) (i : ℕ) → n ≤ mostLeft → n ≤ length left → AtMost 4294967296 was → Tallying c i → AtMost 8589934592 c
   tally-small c i h k s t =
       let u = t .upto in
       let m = length-take-le i left (omega arith) in

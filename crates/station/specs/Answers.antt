@@ -2,7 +2,7 @@
 use mathlib.Core.Path.{_≡_}
 use mathlib.Core.Bool.{Bool, false, cond, _&&_}
 use mathlib.Core.List.{List, map}
-use Prim.Native.Nat.{ℕ, _≤_}
+use Prim.Native.Nat.{ℕ}
 use lib.Dec.{T, leb}
 use lib.Ieee.{Float, binary32, ofBits}
 use Rattle.ranges.specs.Settings.{Settings}
@@ -13,7 +13,7 @@ use Rattle.bank_model.specs.declared.Cause.the-variants.{Twin, Outscored, Aged,
 use Rattle.bank_model.specs.Model.{Hyp}
 use Rattle.bank.specs.declared.Place.{Place}
 use Rattle.bank.specs.declared.Place.the-variants.{Held, Absent, Refused}
-use Rattle.bank.specs.Parts.{widest}
+use Rattle.bank.specs.Parts.{Listed, widest}
 use Rattle.bank.specs.Answers.{Shown, shown, nothing, barred, widthRefusal}
 use Rattle.station_model.specs.declared.Event.{Event}
 use Rattle.station_model.specs.declared.Counts.{Counts}
@@ -43,7 +43,7 @@ pub record Answers (k : Settings) (n : ℕ) (s : Station) (e : Event) (r : Outco
   pub kept : (n ≡ 0 → ⊥) → (r .station ≡ s) × (r .answer .«left_len» ≡ 0)
   pub state : n ≡ 0 → outcome r ≡ step k (view s) e
   pub still : n ≡ 0 → T (sound k (r .station))
-  pub few : r .answer .«left_len» ≤ 9
+  pub listed : Listed (r .answer .left) (r .answer .«left_len»)
 
 abbrev pub Called : Settings → Station → Event → Outcome → Type 0
 Called k s e r = Answers k (callRefusal k s e) s e r

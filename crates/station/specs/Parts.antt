@@ -1,6 +1,7 @@
 -- What the parts of the code ask of a station: soundness, part by part. Definitions only.
 use mathlib.Core.Path.{_≡_}
 use mathlib.Core.Bool.{false}
+use mathlib.Core.List.{[]}
 use mathlib.Core.Option.{none}
 use Prim.Native.Nat.{ℕ, _+_, _≤_, _<_}
 use lib.Dec.{T, eqb, ltb}
@@ -11,11 +12,12 @@ use Rattle.marks.specs.Lists.{duration}
 use Rattle.tracker.specs.Sound as Tracking
 use Rattle.bank_model.specs.declared.Cause.{Cause}
 use Rattle.bank_model.specs.declared.Cause.the-variants.{Twin, Outscored, Aged, Replaced, Cleared}
-use Rattle.bank.specs.Parts.{Sturdy}
+use Rattle.bank.specs.Parts.{Listed, Sturdy, mostLeft, padded}
 use Rattle.bank.specs.Parts as Banked
 use Rattle.bank.specs.Switching.{Chosen}
 use Rattle.station_model.specs.declared.Event.{Event}
 use Rattle.station_model.specs.declared.Event.the-variants.{Mark, Gap, Finish, Seed, Hint, Clear, Switch}
+use Rattle.station_model.specs.declared.Code.{Code}
 use Rattle.station_model.specs.declared.Counts.{Counts}
 use Rattle.station_model.specs.Station.{ind, isCause, ready, step}
 use Rattle.station_model.specs.Station as Model
@@ -74,15 +76,19 @@ Allowed s (Hint r) = Unit {0}
 Allowed s Clear = Unit {0}
 Allowed s Switch = Chosen (s .bank) (s .primary)
 
+-- a call that no one leaves at: the station after it, and the code
+abbrev pub noneLeft : Station → Code → Outcome
+noneLeft t code = record { station = t; answer = record { code = code; left = padded mostLeft []; «left_len» = 0 } }
+
 -- an outcome is as m says, of a sound primary and a sound bank
 pub record Stands (r : Outcome) (m : Model.Outcome) : Type 0 where
   pub is : outcome r ≡ m
   pub primary : T (Tracking.sound standard (r .station .primary))
   pub bank : Sturdy (r .station .bank)
-  pub few : r .answer .«left_len» ≤ 9
+  pub listed : Listed (r .answer .left) (r .answer .«left_len»)
 
 -- a call on a steady station is what the definitions say, refused or not, and never refused by 1; the station is steady again
 pub record Next (s : Station) (e : Event) (r : Outcome) : Type 0 where
   pub is : outcome r ≡ step standard (view s) e
   pub steady : Steady (r .station)
-  pub few : r .answer .«left_len» ≤ 9
+  pub listed : Listed (r .answer .left) (r .answer .«left_len»)

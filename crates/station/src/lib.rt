@@ -2,6 +2,7 @@
 use bank::Place;
 use bank::TimingBank;
 use bank_model::Departure;
+use bank_model::MOST_LEFT;
 use station_model::Code;
 use station_model::Counts;
 use tracker::SpeedTracker;
@@ -22,7 +23,7 @@ pub struct Station {
 // The answer of a call: its code, and those that left in it.
 pub struct Answer {
     pub code: Code,
-    pub left: [Departure; 9],
+    pub left: [Departure; MOST_LEFT],
     pub left_len: usize,
 }
 

@@ -2,6 +2,7 @@
 // `oracle replay station crates/station_replay`: stdout has the answers of the Rust that the library replaces, driven as document 01's
 // "Station" says. A line is a letter, a digit and three fields of 8 hexadecimal digits, parted by blanks: W a fresh station (the
 // digit: switching; the width), E an event (the digit: live; its kind, its number), A shows the rivals and the primary whole.
+use bank_model::MOST_LEFT;
 use hullathan::call::called;
 use hullathan::start::started;
 use plain::PlainDeparture;
@@ -43,9 +44,9 @@ fn put_books(s: PlainStation) {
     put_byte(b'\n');
 }
 
-fn put_departure(left: [PlainDeparture; 9], i: usize, n: usize) {
+fn put_departure(left: [PlainDeparture; MOST_LEFT], i: usize, n: usize) {
     if i < n {
-        if i < 9 {
+        if i < MOST_LEFT {
             let d = left[i];
             put_long(d.serial);
             put_code(d.cause);
@@ -54,9 +55,9 @@ fn put_departure(left: [PlainDeparture; 9], i: usize, n: usize) {
 }
 
 // Those that left.
-fn put_left(left: [PlainDeparture; 9], n: usize) {
+fn put_left(left: [PlainDeparture; MOST_LEFT], n: usize) {
     put_count(n);
-    for i in 0..9 {
+    for i in 0..MOST_LEFT {
         put_departure(left, i, n);
     }
 }

@@ -7,33 +7,34 @@ use crate::inner::among::place_or;
 use bank_model::Best;
 use bank_model::Cause;
 use bank_model::Departure;
+use bank_model::MOST_LEFT;
 use rival::inner::each::is_kept;
 use rival::inner::each::lead_one;
 use rival::inner::each::why;
 ghost use mathlib.Core.Path.{_≡_};
-ghost use mathlib.Core.List.{map};
+ghost use mathlib.Core.List.{[], map};
 ghost use Prim.Native.Nat.{_≤_};
-ghost use lib.ListN.{length, take};
+ghost use lib.ListN.{length};
 ghost use Rattle.ranges.specs.Settings.{standard};
 ghost use Rattle.bank_model.specs.Model.{stay, andThen};
 ghost use Rattle.bank_model.specs.Steps.{prunedAt, leading, goneCleared};
 ghost use Rattle.bank.specs.View.{view, told};
-ghost use Rattle.bank.specs.Parts.{Crew, Left, Steady};
+ghost use Rattle.bank.specs.Parts.{Crew, Left, Listed, Steady, mostLeft, padded, untouched};
 
 // No one leaves.
-pub(crate) fn nobody() -> [Departure; 9]
-    ensures { λ r. ⌜ length r ≡ 9 ⌝ }
+pub fn nobody() -> [Departure; MOST_LEFT]
+    ensures { λ r. ⌜ r ≡ padded mostLeft [] ⌝ }
 {
     let d = Departure {
         serial: 0,
         cause: Cause::Cleared,
     };
-    [d; 9]
+    [d; MOST_LEFT]
 }
 
 // A bank that no one left.
 pub(crate) fn unchanged(b: TimingBank) -> Changed
-    ensures { λ r. ⌜ ((r .bank ≡ b) × (r .«left_len» ≡ 0)) × (length (r .left) ≡ 9) ⌝ }
+    ensures { λ r. ⌜ r ≡ untouched b ⌝ }
 {
     let left = nobody();
     Changed {
@@ -47,7 +48,8 @@ pub(crate) fn unchanged(b: TimingBank) -> Changed
 // stay, leads are one mark longer or lost, and the choice is made among those that qualify.
 pub(crate) fn prune(t: Changed, lo: f32, hi: f32) -> Changed
     requires { ⌜ Steady (t .bank) ⌝ }
-    requires { ⌜ (t .«left_len» ≤ 1) × (length (t .left) ≡ 9) ⌝ }
+    requires { ⌜ Listed (t .left) (t .«left_len») ⌝ }
+    requires { ⌜ length (andThen (told t) (prunedAt standard lo hi) .left) ≤ mostLeft ⌝ }
     ensures { λ r. ⌜ Left r (leading standard (andThen (told t) (prunedAt standard lo hi))) ⌝ }
 {
     let mut c = t.bank;
@@ -88,9 +90,9 @@ pub(crate) fn prune(t: Changed, lo: f32, hi: f32) -> Changed
 }
 
 // All challengers, as those that a clear sends away.
-pub(crate) fn all_cleared(b: TimingBank) -> [Departure; 9]
-    requires { ⌜ Crew (b .«challengers_len») (b .challengers) ⌝ }
-    ensures { λ r. ⌜ (take (b .«challengers_len») r ≡ map goneCleared (view b .challengers)) × (length r ≡ 9) ⌝ }
+pub(crate) fn all_cleared(b: TimingBank) -> [Departure; MOST_LEFT]
+    requires { ⌜ Crew (b .«challengers_len») (b .challengers) × (b .«challengers_len» ≤ mostLeft) ⌝ }
+    ensures { λ r. ⌜ r ≡ padded mostLeft (map goneCleared (view b .challengers)) ⌝ }
 {
     let mut left = nobody();
     let n = b.challengers_len;

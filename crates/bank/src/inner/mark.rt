@@ -22,7 +22,7 @@ ghost use Rattle.tracker.specs.Sound.{sound};
 ghost use Rattle.bank_model.specs.Scores.{lnDit, lnDah};
 ghost use Rattle.bank_model.specs.Steps.{scored, markedTold, heardMark, onMark};
 ghost use Rattle.bank.specs.View.{view};
-ghost use Rattle.bank.specs.Parts.{Sturdy, Countable, Came, Left};
+ghost use Rattle.bank.specs.Parts.{Sturdy, Countable, Left};
 
 // The mark d, beside a primary p of logarithms lo and hi: each score, and the held gap taken out.
 pub(crate) fn score_all(
@@ -60,7 +60,7 @@ pub(crate) fn score_mark(
     requires { ⌜ Sturdy b × Countable b ⌝ }
     requires { ⌜ T (duration d) ⌝ }
     requires { ⌜ (lo ≡ lnDit (Tracked.view p)) × (hi ≡ lnDah (Tracked.view p)) ⌝ }
-    ensures { λ r. ⌜ Came r (markedTold standard (view b) (Tracked.view p) d live) ⌝ }
+    ensures { λ r. ⌜ Left r (markedTold standard (view b) (Tracked.view p) d live) ⌝ }
 {
     let c = score_all(b, p, lo, hi, d, live);
     if live {

@@ -27,7 +27,7 @@ ghost use Rattle.tracker.specs.Steps.{fromMarks};
 ghost use Rattle.bank_model.specs.Steps.{leastPlace, without, onReady};
 ghost use Rattle.bank_model.specs.Steps as Steps;
 ghost use Rattle.bank.specs.View.{view};
-ghost use Rattle.bank.specs.Parts.{Sturdy, Came};
+ghost use Rattle.bank.specs.Parts.{Sturdy, Left};
 
 // The place of the first least of some marks.
 pub(crate) fn least_place(marks: &[f32]) -> usize
@@ -127,7 +127,7 @@ pub fn on_ready(b: TimingBank, p: SpeedTracker, marks: &[f32]) -> Changed
     requires { ⌜ T (sound standard p) ⌝ }
     requires { ⌜ length (now marks) ≤ 12 ⌝ }
     requires { ⌜ AllIn durationMin durationMax (now marks) ⌝ }
-    ensures { λ r. ⌜ Came r (onReady standard (view b) (Tracked.view p) (now (marks .entry))) ⌝ }
+    ensures { λ r. ⌜ Left r (onReady standard (view b) (Tracked.view p) (now (marks .entry))) ⌝ }
 {
     if b.width < 2 {
         return unchanged(b);

@@ -26,7 +26,7 @@ ghost use Rattle.bank_model.specs.Steps.{Before, newborn, pushed, replacing, pl
 ghost use Rattle.rival.specs.View.{viewHyp};
 ghost use Rattle.bank.specs.View.{view, told};
 ghost use Rattle.rival.specs.Parts.{Fit};
-ghost use Rattle.bank.specs.Parts.{Sturdy, Came};
+ghost use Rattle.bank.specs.Parts.{Sturdy, Left};
 
 // A challenger with the primary's scores and the next serial.
 pub(crate) fn newborn(
@@ -60,7 +60,7 @@ pub(crate) fn newborn(
 pub(crate) fn push(b: TimingBank, h: TimingHypothesis) -> Changed
     requires { ⌜ Sturdy b × Fit h ⌝ }
     requires { ⌜ b .«challengers_len» + 1 < b .width ⌝ }
-    ensures { λ r. ⌜ Came r (pushed (view b) (viewHyp h)) ⌝ }
+    ensures { λ r. ⌜ Left r (pushed (view b) (viewHyp h)) ⌝ }
 {
     let mut c = b;
     let n = b.challengers_len;
@@ -74,7 +74,7 @@ pub(crate) fn push(b: TimingBank, h: TimingHypothesis) -> Changed
 pub(crate) fn replace(b: TimingBank, v: Best, h: TimingHypothesis) -> Changed
     requires { ⌜ Sturdy b × Fit h ⌝ }
     requires { ⌜ Before (b .«challengers_len») v ⌝ }
-    ensures { λ r. ⌜ Came r (replacing (view b) (viewHyp h) (place v)) ⌝ }
+    ensures { λ r. ⌜ Left r (replacing (view b) (viewHyp h) (place v)) ⌝ }
 {
     match v {
         Best::Unfound => unchanged(b),
@@ -102,7 +102,7 @@ pub(crate) fn replace(b: TimingBank, v: Best, h: TimingHypothesis) -> Changed
 pub(crate) fn spawn(b: TimingBank, lo: f32, hi: f32, t: SpeedTracker, o: Origin) -> Changed
     requires { ⌜ Sturdy b ⌝ }
     requires { ⌜ T (sound standard t) × (t .pair .ready ≡ true) ⌝ }
-    ensures { λ r. ⌜ Came r (spawnedAt (view b) lo hi o (Tracked.view t)) ⌝ }
+    ensures { λ r. ⌜ Left r (spawnedAt (view b) lo hi o (Tracked.view t)) ⌝ }
 {
     let p = t.pair;
     let t_lo = log_of(p.lo);

@@ -27,7 +27,7 @@ ghost use Rattle.tracker.specs.Sound.{sound};
 ghost use Rattle.bank_model.specs.Model.{withEvidence};
 ghost use Rattle.bank_model.specs.Steps.{one, goesOn, streakOn, emptied, candidateAt, streakAt};
 ghost use Rattle.bank.specs.View.{given, view};
-ghost use Rattle.bank.specs.Parts.{GapIn, withStreak, Sturdy, Came};
+ghost use Rattle.bank.specs.Parts.{GapIn, withStreak, Sturdy, Left};
 
 // Whether the mark d is at the boundary of the pair or above it.
 pub fn is_high(p: ClusterPair, d: f32) -> bool
@@ -147,7 +147,7 @@ pub(crate) fn step_streak(
     requires { ⌜ Sturdy b ⌝ }
     requires { ⌜ In durationMin durationMax d ⌝ }
     requires { ⌜ GapIn «has_gap» gap ⌝ }
-    ensures { λ r. ⌜ Came r (streakAt standard (view b) lo hi side d (given «has_gap» gap)) ⌝ }
+    ensures { λ r. ⌜ Left r (streakAt standard (view b) lo hi side d (given «has_gap» gap)) ⌝ }
 {
     let c = grow(b, side, d, has_gap, gap);
     if c.streak_len < 4 {

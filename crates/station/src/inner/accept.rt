@@ -4,8 +4,10 @@ use crate::Outcome;
 use crate::Station;
 use bank::Changed;
 use bank::TimingBank;
+use bank::inner::leave::nobody;
 use bank_model::Cause;
 use bank_model::Departure;
+use bank_model::MOST_LEFT;
 use station_model::Code;
 use station_model::Counts;
 use tracker::SpeedTracker;
@@ -19,10 +21,10 @@ ghost use Rattle.tracker.specs.Sound.{sound};
 ghost use Rattle.bank_model.specs.Model.{stay};
 ghost use Rattle.bank.specs.View.{told};
 ghost use Rattle.bank.specs.View as Banked;
-ghost use Rattle.bank.specs.Parts.{Left, Sturdy};
+ghost use Rattle.bank.specs.Parts.{Left, Listed, Sturdy, mostLeft};
 ghost use Rattle.station_model.specs.Station.{accepted, tallied};
 ghost use Rattle.station.specs.View.{view};
-ghost use Rattle.station.specs.Parts.{AtMost, Open, Solid, Stands, oneMore};
+ghost use Rattle.station.specs.Parts.{AtMost, Open, Solid, Stands, noneLeft, oneMore};
 
 // One more that left by this cause.
 pub(crate) fn count_one(c: Counts, cause: Cause) -> Counts
@@ -54,9 +56,9 @@ pub(crate) fn count_one(c: Counts, cause: Cause) -> Counts
 }
 
 // The counts after the first n of those that left.
-pub(crate) fn tally(was: Counts, left: [Departure; 9], n: usize) -> Counts
+pub(crate) fn tally(was: Counts, left: [Departure; MOST_LEFT], n: usize) -> Counts
     requires { ⌜ AtMost 4294967296 was ⌝ }
-    requires { ⌜ n ≤ 9 ⌝ }
+    requires { ⌜ n ≤ mostLeft ⌝ }
     ensures { λ r. ⌜ r ≡ tallied was (take n left) ⌝ }
 {
     let mut c = was;
@@ -68,15 +70,6 @@ pub(crate) fn tally(was: Counts, left: [Departure; 9], n: usize) -> Counts
         c = count_one(c, cause);
     }
     c
-}
-
-// No one leaves.
-pub(crate) fn nobody() -> [Departure; 9] {
-    let d = Departure {
-        serial: 0,
-        cause: Cause::Cleared,
-    };
-    [d; 9]
 }
 
 // A bank that no one left.
@@ -94,7 +87,7 @@ pub(crate) fn stay(b: TimingBank) -> Changed
 
 // A call that no one leaves at: the station after it, and the code.
 pub(crate) fn done(t: Station, code: Code) -> Outcome
-    ensures { λ r. ⌜ (r .answer .code ≡ code) × ((r .station ≡ t) × (r .answer .«left_len» ≡ 0)) ⌝ }
+    ensures { λ r. ⌜ r ≡ noneLeft t code ⌝ }
 {
     let left = nobody();
     let answer = Answer {
@@ -115,7 +108,7 @@ pub(crate) fn accept(
 ) -> Outcome
     requires { ⌜ Solid s × Open s ⌝ }
     requires { ⌜ T (sound standard primary) ⌝ }
-    requires { ⌜ Sturdy (t .bank) × (t .«left_len» ≤ 9) ⌝ }
+    requires { ⌜ Sturdy (t .bank) × Listed (t .left) (t .«left_len») ⌝ }
     ensures { λ r. ⌜ Stands r (accepted (view s) (record { primary = Tracked.view primary; serial = serial; told = told t; code = code })) ⌝ }
 {
     let bank = t.bank;

@@ -13,7 +13,7 @@ ghost use Rattle.tracker.specs.Answers.{speedRefusal};
 ghost use Rattle.station_model.specs.declared.Code.the-variants.{Refused};
 ghost use Rattle.station_model.specs.Station.{fault, full};
 ghost use Rattle.station.specs.View.{view};
-ghost use Rattle.station.specs.Parts.{Solid};
+ghost use Rattle.station.specs.Parts.{Solid, noneLeft};
 ghost use Rattle.station.specs.Sound.{choiceSound};
 ghost use Rattle.station.specs.Answers.{callRefusal};
 
@@ -96,7 +96,7 @@ pub(crate) fn call_refusal(s: Station, e: Event) -> u8
 
 // A refused call: the number, the station as it was, and none that left.
 pub fn refuse(s: Station, n: u8) -> Outcome
-    ensures { λ r. ⌜ (r .answer .code ≡ Refused n) × ((r .station ≡ s) × (r .answer .«left_len» ≡ 0)) ⌝ }
+    ensures { λ r. ⌜ r ≡ noneLeft s (Refused n) ⌝ }
 {
     done(s, Code::Refused(n))
 }

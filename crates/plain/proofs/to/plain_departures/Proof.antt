@@ -4,12 +4,13 @@ use native.Mathlib.Omega.{arith}
 use borrow.Author.Needs.{needs}
 use Rattle.marks.proofs.Shifting.{unmapped}
 use Rattle.plain_tracker.proofs.Carrying.{Laden, filled, laden-begins, laden-turns, laden-ends}
+use Rattle.bank.specs.Parts.{mostLeft}
 use Rattle.plain.specs.Plain.{plainDeparture, noDeparture}
 use Rattle.plain.proofs.to.plain_departures.Statement.{statement}
 use Rattle.plain.proofs.to.plain_departures.Tie as tie
 
 abbrev Inv-loop : tie.InvT-loop
-Inv-loop count left n out₀ i₀ out i = Laden plainDeparture noDeparture (left) 9 (count) n out i
+Inv-loop count left n out₀ i₀ out i = Laden plainDeparture noDeparture (left) mostLeft (count) n out i
 
 abbrev μ-loop : tie.MeasureT-loop
 μ-loop count left n out₀ i₀ out i = n - i
@@ -22,7 +23,7 @@ no-departure-requires c κs = search needs
 
 loop-holds : tie.Need-loop-holds Inv-loop μ-loop
 unfolding filled
-loop-holds c = laden-begins plainDeparture noDeparture _ 9 _ _ _ (c .no-departure .ensures) (search (unmapped, needs)) (c .before .capped .ensures)
+loop-holds c = laden-begins plainDeparture noDeparture _ mostLeft _ _ _ (c .no-departure .ensures) (search (unmapped, needs)) (c .before .capped .ensures)
 
 mul-d : tie.Need-mul-d Inv-loop μ-loop
 mul-d c = search needs
@@ -46,10 +47,10 @@ loop-less : tie.Need-loop-less Inv-loop μ-loop
 loop-less c = search needs
 
 loop-again : tie.Need-loop-again Inv-loop μ-loop
-loop-again c = laden-turns plainDeparture noDeparture _ 9 _ _ _ _ _ _ (c .before .before .loop-test .taken) (c .before .before .before .loop .inv) (c .plain-departure .ensures)
+loop-again c = laden-turns plainDeparture noDeparture _ mostLeft _ _ _ _ _ _ (c .before .before .loop-test .taken) (c .before .before .before .loop .inv) (c .plain-departure .ensures)
 
 returns : tie.Need-returns Inv-loop μ-loop
-returns c = laden-ends plainDeparture noDeparture _ 9 _ _ _ _ (c .loop-test .left) (c .before .loop .inv)
+returns c = laden-ends plainDeparture noDeparture _ mostLeft _ _ _ _ (c .loop-test .left) (c .before .loop .inv)
 
 pub plain-departures-spec : {M : Type 1} → statement M
 plain-departures-spec =

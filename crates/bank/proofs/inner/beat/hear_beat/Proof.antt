@@ -11,7 +11,8 @@ use Rattle.marks.specs.Lists.{duration}
 use Rattle.tracker.specs.Model as Tracked
 use Rattle.bank_model.specs.Steps.{causeAt, led, qualifies, marked}
 use Rattle.bank.specs.View.{view}
-use Rattle.bank.proofs.Leaving.{Sifting, sift-begins, sift-member, sift-ends, heard-many, keeps-heard, drops-heard}
+use Rattle.bank.proofs.Leaving.{Sifting, sift-begins, sift-member, sift-ends, heard-many, few-heard, keeps-heard, room-heard, drops-heard}
+use Rattle.bank.proofs.Padding.{empty-listed}
 use Rattle.bank.proofs.Beating.{beaten-is, few-marks, beat-told}
 use Rattle.bank.proofs.inner.beat.hear_beat.Statement.{statement}
 use Rattle.bank.proofs.inner.beat.hear_beat.Tie as tie
@@ -51,7 +52,8 @@ loop-holds c =
     let a = c .before .before .before .before in
     let s = a .before in
     let y = beaten-is (s .args .b) (s .pre .0 .0) (Tracked.view (s .args .p)) (s .args .side) (s .args .d) _ (a .struck .result .run) (a .struck .ensures .run) (a .struck .ensures .score) .1 .steady in
-    (sift-begins _ _ _ _ _ _ _ (heard-many _ _ y) y (search needs) (c .nobody .ensures), (s .pre .1 .0, a .struck .ensures .log))
+    let n = heard-many (marked standard (s .args .d) true) _ y in
+    (sift-begins _ _ _ _ _ _ _ n y (empty-listed _ (c .nobody .ensures)) (few-heard _ _ _ y n), (s .pre .1 .0, a .struck .ensures .log))
 
 -- src/inner/beat.rt:158:26
 mul-mark-one : tie.Need-mul-mark-one Inv-loop μ-loop
@@ -110,15 +112,27 @@ gone-requires c κs = (c .before .before .mark-one .ensures .1, sym (c .before .
 
 -- src/inner/beat.rt:166:13
 mul-left : tie.Need-mul-left Inv-loop μ-loop
-mul-left c = search needs
+mul-left c =
+    let s = c .before .before .before in
+    let l = s .before .before .before in
+    let r = room-heard _ _ _ _ _ _ _ _ _ _ _ _ _ _ (l .loop .inv .0) (s .before .before .loop-test .taken) (s .mark-one .result) (s .mark-one .ensures .0) (sym (c .before .before .is-kept .ensures) ∙ c .before .if1 .left) .0 in
+    search needs
 
 -- src/inner/beat.rt:166:13
 array-set-from-left : tie.Need-array-set-from-left Inv-loop μ-loop
-array-set-from-left c = search needs
+array-set-from-left c =
+    let s = c .before .before .before in
+    let l = s .before .before .before in
+    let r = room-heard _ _ _ _ _ _ _ _ _ _ _ _ _ _ (l .loop .inv .0) (s .before .before .loop-test .taken) (s .mark-one .result) (s .mark-one .ensures .0) (sym (c .before .before .is-kept .ensures) ∙ c .before .if1 .left) .0 in
+    search needs
 
 -- src/inner/beat.rt:167:13
 add-g : tie.Need-add-g Inv-loop μ-loop
-add-g c = search needs
+add-g c =
+    let s = c .before .before .before in
+    let l = s .before .before .before in
+    let r = room-heard _ _ _ _ _ _ _ _ _ _ _ _ _ _ (l .loop .inv .0) (s .before .before .loop-test .taken) (s .mark-one .result) (s .mark-one .ensures .0) (sym (c .before .before .is-kept .ensures) ∙ c .before .if1 .left) .0 in
+    search needs
 
 -- src/inner/beat.rt:157:5
 loop-less-2 : tie.Need-loop-less-2 Inv-loop μ-loop
@@ -147,7 +161,7 @@ returns c =
     let s = a .before in
     let k = beaten-is (s .args .b) (s .pre .0 .0) (Tracked.view (s .args .p)) (s .args .side) (s .args .d) _ (a .struck .result .run) (a .struck .ensures .run) (a .struck .ensures .score) in
     let u = sift-ends _ _ _ (record { bank = _; left = l .before .nobody .result; «left_len» = 0 }) _ _ _ _ _ _ (l .loop .inv .0) (c .before .before .loop-test .left) _ _ _ (c .before .is-found .ensures) (c .place-or .ensures) in
-    record { is = u .is ∙ beat-told (view (s .args .b)) _ (Tracked.view (s .args .p)) _ _ (s .args .d) (s .args .side) (k .0) (s .pre .1 .1 .0 .0) (s .pre .1 .1 .0 .1) (s .pre .1 .1 .1 .0) (few-marks (s .args .b) (s .pre .0 .0) (s .pre .1 .1 .1 .1)); sturdy = u .sturdy; few = u .few }
+    record { is = u .is ∙ beat-told (view (s .args .b)) _ (Tracked.view (s .args .p)) _ _ (s .args .d) (s .args .side) (k .0) (s .pre .1 .1 .0 .0) (s .pre .1 .1 .0 .1) (s .pre .1 .1 .1 .0) (few-marks (s .args .b) (s .pre .0 .0) (s .pre .1 .1 .1 .1)); sturdy = u .sturdy; listed = u .listed }
 
 pub hear-beat-spec : {M : Type 1} → statement M
 hear-beat-spec =

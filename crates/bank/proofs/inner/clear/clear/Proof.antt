@@ -1,6 +1,7 @@
 use native.Mathlib.Omega.{arith}
-use Rattle.bank.proofs.Clearing.{blank-sturdy, clear-by, cleared-told}
-use Rattle.bank.proofs.Coming.{unchanged-came, unchanged-is, came-as}
+use Rattle.bank.proofs.Clearing.{clear-by, cleared-left}
+use Rattle.bank.proofs.Leaving.{crew-few}
+use Rattle.bank.proofs.Coming.{unchanged-left, left-as}
 use Rattle.bank.specs.View.{given, view}
 use mathlib.Core.Bool.{Bool, true, false}
 use borrow.Author.Tests.{lt-leb, le-leb}
@@ -20,15 +21,20 @@ unchanged-requires c κs = search needs
 
 -- src/inner/clear.rt:17:9
 returns : tie.Need-returns
-returns c = record { is = unchanged-is (c .before .before .before .args .b) _ (c .unchanged .ensures) ∙ clear-by (view (c .before .before .before .args .b)) false (lt-leb 2 (c .before .before .before .args .b .width) (c .before .if1 .taken)); sturdy = subst Sturdy (sym (c .unchanged .ensures .0 .0)) (c .before .before .before .pre); few = let e = c .unchanged .ensures .0 .1 in omega arith }
+returns c =
+    let s = c .before .before .before in
+    left-as _ _ _ (clear-by (view (s .args .b)) false (lt-leb 2 (s .args .b .width) (c .before .if1 .taken)))
+    (unchanged-left (s .args .b) _ (c .unchanged .ensures) (s .pre))
 
 -- src/inner/clear.rt:19:9
 all-cleared-requires : tie.Need-all-cleared-requires
-all-cleared-requires c κs = search needs
+all-cleared-requires c κs = (c .before .before .pre .steady .crew, crew-few _ (c .before .before .pre .steady))
 
 -- src/inner/clear.rt:12:1
 returns-2 : tie.Need-returns-2
-returns-2 c = record { is = cleared-told (c .before .before .before .args .b) (c .all-cleared .result) (c .all-cleared .ensures) (le-leb 2 (c .before .before .before .args .b .width) (c .before .if1 .left)); sturdy = blank-sturdy (c .before .before .before .args .b) (c .before .before .before .pre); few = let e = c .before .before .before .pre .steady .crew .few in omega arith }
+returns-2 c =
+    let s = c .before .before .before in
+    cleared-left (s .args .b) (s .pre) (c .all-cleared .result) (c .all-cleared .ensures) (le-leb 2 (s .args .b .width) (c .before .if1 .left))
 
 pub clear-spec : {M : Type 1} → statement M
 clear-spec = tie.close (tie.spec unchanged-requires returns all-cleared-requires returns-2)

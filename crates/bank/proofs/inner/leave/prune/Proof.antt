@@ -3,9 +3,9 @@ use mathlib.Core.Path.{sym, _∙_}
 use Prim.Native.Nat.{_-_}
 use borrow.Author.Needs.{needs}
 use Rattle.ranges.specs.Settings.{standard}
-use Rattle.bank_model.specs.Steps.{causeAt, led, qualifies}
+use Rattle.bank_model.specs.Steps.{causeAt, led, qualifies, prunedAt}
 use Rattle.bank.specs.View.{view}
-use Rattle.bank.proofs.Leaving.{Sifting, sift-begins, sift-member, sift-ends, sift-many, keeps-here, drops-here}
+use Rattle.bank.proofs.Leaving.{Sifting, sift-begins, sift-member, sift-ends, sift-many, keeps-here, room-here, drops-here}
 use Rattle.bank.proofs.inner.leave.prune.Statement.{statement}
 use Rattle.bank.proofs.inner.leave.prune.Tie as tie
 
@@ -16,7 +16,10 @@ abbrev μ-loop : tie.MeasureT-loop
 μ-loop lo hi c₀ left₀ g₀ n score gap-score best₀ w₀ i₀ c left g best w i = n - i
 
 loop-holds : tie.Need-loop-holds Inv-loop μ-loop
-loop-holds c = sift-begins _ _ _ _ _ _ _ (sift-many _ (c .before .before .pre .0)) (c .before .before .pre .0) (c .before .before .pre .1 .0) (c .before .before .pre .1 .1)
+unfolding prunedAt
+loop-holds c =
+    let p = c .before .before .pre in
+    sift-begins _ _ _ _ _ _ _ (sift-many _ (p .0)) (p .0) (p .1 .0) (p .1 .1)
 
 mul-h : tie.Need-mul-h Inv-loop μ-loop
 mul-h c = search needs
@@ -55,13 +58,22 @@ why-requires : tie.Need-why-requires Inv-loop μ-loop
 why-requires c κs = (sift-member _ _ _ _ _ _ _ _ _ _ _ _ _ _ (c .before .before .before .before .loop .inv) (c .before .before .before .loop-test .taken), sym (c .before .is-kept .ensures) ∙ c .if1 .left)
 
 mul-left : tie.Need-mul-left Inv-loop μ-loop
-mul-left c = search needs
+mul-left c =
+    let s = c .before .before .before in
+    let r = room-here _ _ _ _ _ _ _ _ _ _ _ _ _ (s .before .before .loop .inv) (s .before .loop-test .taken) (sym (c .before .before .is-kept .ensures) ∙ c .before .if1 .left) .0 in
+    search needs
 
 array-set-from-left : tie.Need-array-set-from-left Inv-loop μ-loop
-array-set-from-left c = search needs
+array-set-from-left c =
+    let s = c .before .before .before in
+    let r = room-here _ _ _ _ _ _ _ _ _ _ _ _ _ (s .before .before .loop .inv) (s .before .loop-test .taken) (sym (c .before .before .is-kept .ensures) ∙ c .before .if1 .left) .0 in
+    search needs
 
 add-g : tie.Need-add-g Inv-loop μ-loop
-add-g c = search needs
+add-g c =
+    let s = c .before .before .before in
+    let r = room-here _ _ _ _ _ _ _ _ _ _ _ _ _ (s .before .before .loop .inv) (s .before .loop-test .taken) (sym (c .before .before .is-kept .ensures) ∙ c .before .if1 .left) .0 in
+    search needs
 
 loop-less-2 : tie.Need-loop-less-2 Inv-loop μ-loop
 loop-less-2 c = search needs

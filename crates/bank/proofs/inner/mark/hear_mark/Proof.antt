@@ -1,4 +1,4 @@
-use Rattle.bank.proofs.Hearing.{dropped, gap-heard, mark-heard, primary-mark, gap-by, mark-heard-by, silent-told, live-told, mark-told}
+use Rattle.bank.proofs.Hearing.{dropped, gap-heard, mark-heard, primary-mark, gap-by, mark-heard-by, silent-told, live-told, few-marked, mark-told}
 use Rattle.bank_model.proofs.Ready.{dit-log, dah-log, estimate-positive}
 use Rattle.bank.specs.View.{given, view}
 use Rattle.tracker.specs.Model as Tracked
@@ -26,10 +26,13 @@ score-mark-requires c κs = search needs
 
 -- src/inner/mark.rt:71:9
 prune-requires : tie.Need-prune-requires
-prune-requires c κs = search needs
+prune-requires c κs =
+    let s = c .before .before .before .before in
+    let e = c .score-mark .ensures in
+    (e .sturdy .steady, (e .listed, few-marked (s .args .b) (s .pre .0 .0) (s .args .p) _ _ (s .args .d) (s .args .live) (c .score-mark .result) (c .before .before .log-of .ensures) (c .before .log-of2 .ensures) (e .is)))
 
 returns : tie.Need-returns
-returns c = let s = c .before .before .before .before .before .args in let u = c .prune .ensures in record { is = mark-told (view (s .b)) (Tracked.view (s .p)) _ _ (s .d) (s .live) (c .before .score-mark .result) _ (c .before .before .before .log-of .ensures) (c .before .before .log-of2 .ensures) (c .before .score-mark .ensures .is) (u .is); sturdy = u .sturdy; few = u .few }
+returns c = let s = c .before .before .before .before .before .args in let u = c .prune .ensures in record { is = mark-told (view (s .b)) (Tracked.view (s .p)) _ _ (s .d) (s .live) (c .before .score-mark .result) _ (c .before .before .before .log-of .ensures) (c .before .before .log-of2 .ensures) (c .before .score-mark .ensures .is) (u .is); sturdy = u .sturdy; listed = u .listed }
 
 pub hear-mark-spec : {M : Type 1} → statement M
 hear-mark-spec =

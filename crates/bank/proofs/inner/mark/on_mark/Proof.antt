@@ -1,6 +1,6 @@
 use native.Mathlib.Omega.{arith}
 use Rattle.bank.proofs.Hearing.{dropped, gap-heard, mark-heard, primary-mark, gap-by, mark-heard-by, silent-told, live-told, mark-told}
-use Rattle.bank.proofs.Coming.{unchanged-came, unchanged-is, came-as}
+use Rattle.bank.proofs.Coming.{unchanged-left, unchanged-is, left-as}
 use Rattle.bank.specs.View.{given, view}
 use Rattle.tracker.specs.Model as Tracked
 use mathlib.Core.Bool.{Bool, true, false}
@@ -28,7 +28,7 @@ hear-mark-requires c κs = (c .before .before .before .pre .0, (c .before .befor
 
 -- src/inner/mark.rt:98:9
 returns : tie.Need-returns
-returns c = record { is = c .hear-mark .ensures .is ∙ mark-heard-by (view (c .before .before .before .before .args .b)) (Tracked.view (c .before .before .before .before .args .p)) (c .before .before .before .before .args .d) (c .before .before .before .before .args .live) true (sym (c .before .before .hears .ensures) ∙ c .before .if1 .taken); sturdy = c .hear-mark .ensures .sturdy; few = c .hear-mark .ensures .few }
+returns c = record { is = c .hear-mark .ensures .is ∙ mark-heard-by (view (c .before .before .before .before .args .b)) (Tracked.view (c .before .before .before .before .args .p)) (c .before .before .before .before .args .d) (c .before .before .before .before .args .live) true (sym (c .before .before .hears .ensures) ∙ c .before .if1 .taken); sturdy = c .hear-mark .ensures .sturdy; listed = c .hear-mark .ensures .listed }
 
 -- src/inner/mark.rt:100:5
 unchanged-requires : tie.Need-unchanged-requires
@@ -36,7 +36,10 @@ unchanged-requires c κs = search needs
 
 -- src/inner/mark.rt:90:1
 returns-2 : tie.Need-returns-2
-returns-2 c = record { is = unchanged-is (c .before .before .before .before .args .b) _ (c .unchanged .ensures) ∙ mark-heard-by (view (c .before .before .before .before .args .b)) (Tracked.view (c .before .before .before .before .args .p)) (c .before .before .before .before .args .d) (c .before .before .before .before .args .live) false (sym (c .before .before .hears .ensures) ∙ c .before .if1 .left); sturdy = subst Sturdy (sym (c .unchanged .ensures .0 .0)) (c .before .before .before .before .pre .0 .0); few = let e = c .unchanged .ensures .0 .1 in omega arith }
+returns-2 c =
+    let s = c .before .before .before .before in
+    left-as _ _ _ (mark-heard-by (view (s .args .b)) (Tracked.view (s .args .p)) (s .args .d) (s .args .live) false (sym (c .before .before .hears .ensures) ∙ c .before .if1 .left))
+    (unchanged-left (s .args .b) _ (c .unchanged .ensures) (s .pre .0 .0))
 
 pub on-mark-spec : {M : Type 1} → statement M
 on-mark-spec =

@@ -1,5 +1,5 @@
 use Rattle.bank.proofs.Hearing.{dropped, gap-heard, mark-heard, primary-mark, gap-by, mark-heard-by, silent-told, live-told, mark-told}
-use Rattle.bank.proofs.Coming.{unchanged-came, unchanged-is, came-as}
+use Rattle.bank.proofs.Coming.{unchanged-left, unchanged-is, left-as}
 use Rattle.marks.proofs.Bounds.{inside}
 use Rattle.ranges.specs.Limits.{durationMin, durationMax}
 use Rattle.tracker.specs.Model as Tracked
@@ -27,7 +27,7 @@ step-streak-requires c κs = (c .before .before .before .score-all .ensures .1, 
 
 -- src/inner/mark.rt:55:9
 returns : tie.Need-returns
-returns c = came-as _ _ _ (live-told (c .before .before .before .before .before .args .b) (c .before .before .before .before .score-all .result) (Tracked.view (c .before .before .before .before .before .args .p)) (c .before .before .before .before .before .args .lo) (c .before .before .before .before .before .args .hi) (c .before .before .before .before .before .args .d) (c .before .before .before .before .before .args .live) (c .before .before .before .before .score-all .ensures .0) (c .before .before .before .before .before .pre .1 .1 .0) (c .before .before .before .before .before .pre .1 .1 .1) _ (c .before .before .before .if1 .taken) (c .before .is-high .ensures)) (c .step-streak .ensures)
+returns c = left-as _ _ _ (live-told (c .before .before .before .before .before .args .b) (c .before .before .before .before .score-all .result) (Tracked.view (c .before .before .before .before .before .args .p)) (c .before .before .before .before .before .args .lo) (c .before .before .before .before .before .args .hi) (c .before .before .before .before .before .args .d) (c .before .before .before .before .before .args .live) (c .before .before .before .before .score-all .ensures .0) (c .before .before .before .before .before .pre .1 .1 .0) (c .before .before .before .before .before .pre .1 .1 .1) _ (c .before .before .before .if1 .taken) (c .before .is-high .ensures)) (c .step-streak .ensures)
 
 -- src/inner/mark.rt:57:5
 unchanged-requires : tie.Need-unchanged-requires
@@ -35,7 +35,7 @@ unchanged-requires c κs = search needs
 
 -- src/inner/mark.rt:45:1
 returns-2 : tie.Need-returns-2
-returns-2 c = came-as _ _ _ (silent-told (c .before .before .before .args .b) (c .before .before .score-all .result) (Tracked.view (c .before .before .before .args .p)) (c .before .before .before .args .lo) (c .before .before .before .args .hi) (c .before .before .before .args .d) (c .before .before .before .args .live) (c .before .before .score-all .ensures .0) (c .before .before .before .pre .1 .1 .0) (c .before .before .before .pre .1 .1 .1) (c .before .if1 .left)) (unchanged-came (c .before .before .score-all .result) _ (c .unchanged .ensures) (c .before .before .score-all .ensures .1))
+returns-2 c = left-as _ _ _ (silent-told (c .before .before .before .args .b) (c .before .before .score-all .result) (Tracked.view (c .before .before .before .args .p)) (c .before .before .before .args .lo) (c .before .before .before .args .hi) (c .before .before .before .args .d) (c .before .before .before .args .live) (c .before .before .score-all .ensures .0) (c .before .before .before .pre .1 .1 .0) (c .before .before .before .pre .1 .1 .1) (c .before .if1 .left)) (unchanged-left (c .before .before .score-all .result) _ (c .unchanged .ensures) (c .before .before .score-all .ensures .1))
 
 pub score-mark-spec : {M : Type 1} → statement M
 score-mark-spec =

@@ -1,5 +1,5 @@
 use Rattle.bank.proofs.Reading.{other-by, other-ready, ready-off, ready-on, ready-none}
-use Rattle.bank.proofs.Coming.{unchanged-came, unchanged-is, came-as}
+use Rattle.bank.proofs.Coming.{unchanged-left, unchanged-is, left-as}
 use mathlib.Core.Path.{_≡_, refl, ap, sym, _∙_}
 use mathlib.Core.Bool.{Bool, true, false}
 use Rattle.tracker.specs.Model as Tracked
@@ -25,7 +25,7 @@ unchanged-requires c κs = search needs
 
 -- src/inner/ready.rt:133:9
 returns : tie.Need-returns
-returns c = came-as _ _ _ (ready-off (view (c .before .before .before .before .args .b)) (Tracked.view (c .before .before .before .before .args .p)) _ (lt-leb 2 (c .before .before .before .before .args .b .width) (c .before .if1 .taken))) (unchanged-came (c .before .before .before .before .args .b) _ (c .unchanged .ensures) (c .before .before .before .before .pre .0))
+returns c = left-as _ _ _ (ready-off (view (c .before .before .before .before .args .b)) (Tracked.view (c .before .before .before .before .args .p)) _ (lt-leb 2 (c .before .before .before .before .args .b .width) (c .before .if1 .taken))) (unchanged-left (c .before .before .before .before .args .b) _ (c .unchanged .ensures) (c .before .before .before .before .pre .0))
 
 -- src/inner/ready.rt:135:9
 other-reading-requires : tie.Need-other-reading-requires
@@ -45,7 +45,7 @@ spawn-requires c κs = (c .before .before .before .before .before .before .befor
 
 -- src/inner/ready.rt:141:9
 returns-2 : tie.Need-returns-2
-returns-2 c = came-as _ _ _ (ready-on (view (c .before .before .before .before .before .before .before .before .before .before .args .b)) (Tracked.view (c .before .before .before .before .before .before .before .before .before .before .args .p)) _ _ _ (some (Tracked.view (c .before .before .before .before .before .before .other-reading .result .tracker))) (le-leb 2 (c .before .before .before .before .before .before .before .before .before .before .args .b .width) (c .before .before .before .before .before .before .before .if1 .left)) (c .before .before .before .log-of .ensures) (c .before .before .log-of2 .ensures) (sym (ap (λ (z : Bool). other z (c .before .before .before .before .before .before .other-reading .result .tracker)) (c .before .before .before .before .before .if2 .taken)) ∙ c .before .before .before .before .before .before .other-reading .ensures .0)) (c .spawn .ensures)
+returns-2 c = left-as _ _ _ (ready-on (view (c .before .before .before .before .before .before .before .before .before .before .args .b)) (Tracked.view (c .before .before .before .before .before .before .before .before .before .before .args .p)) _ _ _ (some (Tracked.view (c .before .before .before .before .before .before .other-reading .result .tracker))) (le-leb 2 (c .before .before .before .before .before .before .before .before .before .before .args .b .width) (c .before .before .before .before .before .before .before .if1 .left)) (c .before .before .before .log-of .ensures) (c .before .before .log-of2 .ensures) (sym (ap (λ (z : Bool). other z (c .before .before .before .before .before .before .other-reading .result .tracker)) (c .before .before .before .before .before .if2 .taken)) ∙ c .before .before .before .before .before .before .other-reading .ensures .0)) (c .spawn .ensures)
 
 -- src/inner/ready.rt:143:5
 unchanged-requires-2 : tie.Need-unchanged-requires-2
@@ -53,7 +53,7 @@ unchanged-requires-2 c κs = search needs
 
 -- src/inner/ready.rt:125:1
 returns-3 : tie.Need-returns-3
-returns-3 c = came-as _ _ _ (ready-none (view (c .before .before .before .before .before .before .args .b)) (Tracked.view (c .before .before .before .before .before .before .args .p)) _ (le-leb 2 (c .before .before .before .before .before .before .args .b .width) (c .before .before .before .if1 .left)) (sym (ap (λ (z : Bool). other z (c .before .before .other-reading .result .tracker)) (c .before .if2 .left)) ∙ c .before .before .other-reading .ensures .0)) (unchanged-came (c .before .before .before .before .before .before .args .b) _ (c .unchanged2 .ensures) (c .before .before .before .before .before .before .pre .0))
+returns-3 c = left-as _ _ _ (ready-none (view (c .before .before .before .before .before .before .args .b)) (Tracked.view (c .before .before .before .before .before .before .args .p)) _ (le-leb 2 (c .before .before .before .before .before .before .args .b .width) (c .before .before .before .if1 .left)) (sym (ap (λ (z : Bool). other z (c .before .before .other-reading .result .tracker)) (c .before .if2 .left)) ∙ c .before .before .other-reading .ensures .0)) (unchanged-left (c .before .before .before .before .before .before .args .b) _ (c .unchanged2 .ensures) (c .before .before .before .before .before .before .pre .0))
 
 pub on-ready-spec : {M : Type 1} → statement M
 on-ready-spec =

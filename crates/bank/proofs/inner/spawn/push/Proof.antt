@@ -1,4 +1,4 @@
-use Rattle.bank.proofs.Coming.{unchanged-is, unchanged-came, push-came, replace-came, spawn-is, roomy-yes, roomy-no, came-as}
+use Rattle.bank.proofs.Coming.{unchanged-is, unchanged-left, push-left, replace-left, spawn-is, roomy-yes, roomy-no, left-as}
 use mathlib.Core.Path.{_≡_, refl, ap, sym, _∙_}
 use borrow.Author.Needs.{needs}
 use Rattle.bank.proofs.inner.spawn.push.Statement.{statement}
@@ -30,7 +30,7 @@ unchanged-requires c κs = search needs
 
 -- src/inner/spawn.rt:53:1
 returns : tie.Need-returns
-returns c = push-came (c .before .before .args .b) (c .before .before .pre .0 .0) (c .before .before .args .h) _ (c .unchanged .result) (c .before .before .pre .0 .1) (c .before .wrapping-add-u64 .ensures) (c .before .before .pre .1) (c .unchanged .ensures)
+returns c = push-left (c .before .before .args .b) (c .before .before .pre .0 .0) (c .before .before .args .h) _ (c .unchanged .result) (c .before .before .pre .0 .1) (c .before .wrapping-add-u64 .ensures) (c .before .before .pre .1) (c .unchanged .ensures)
 
 pub push-spec : {M : Type 1} → statement M
 push-spec =

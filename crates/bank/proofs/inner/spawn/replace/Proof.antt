@@ -1,4 +1,4 @@
-use Rattle.bank.proofs.Coming.{unchanged-is, unchanged-came, push-came, replace-came, spawn-is, roomy-yes, roomy-no, came-as}
+use Rattle.bank.proofs.Coming.{unchanged-is, unchanged-left, push-left, replace-left, spawn-is, roomy-yes, roomy-no, left-as}
 use Rattle.bank.proofs.Choosing.{found-before, victim-before}
 use mathlib.Core.Path.{_≡_, refl, ap, sym, _∙_}
 use native.Mathlib.Omega.{arith}
@@ -53,11 +53,11 @@ array-set-from-left c = search needs
 
 -- src/inner/spawn.rt:67:1
 returns : tie.Need-returns
-returns c = rw (c .before .enum-told .given .1) (unchanged-came (c .before .before .before .args .t1) (c .unchanged .result) (c .unchanged .ensures) (c .before .before .before .pre .0 .0))
+returns c = rw (c .before .enum-told .given .1) (unchanged-left (c .before .before .before .args .t1) (c .unchanged .result) (c .unchanged .ensures) (c .before .before .before .pre .0 .0))
 
 -- src/inner/spawn.rt:67:1
 returns-2 : tie.Need-returns-2
-returns-2 c = let k = found-before (c .before .before .before .before .before .before .args .t1 .«challengers_len») (c .before .before .before .before .before .before .args .v) (c .before .before .before .before .v .given .0 .0) (c .before .before .before .before .v .given .0 .1 .0) (c .before .before .before .before .v .given .1) (c .before .before .before .before .before .before .pre .1) in rw (c .before .before .before .before .v .given .1) (replace-came (c .before .before .before .before .before .before .args .t1) (c .before .before .before .before .before .before .pre .0 .0) (c .before .before .before .before .before .before .args .h) _ (c .before .before .before .before .v .given .0 .0) _ (c .before .before .before .before .v .given .0 .1 .0) (c .nobody .result) (c .before .before .before .before .before .before .pre .0 .1) (c .before .wrapping-add-u64 .ensures) k (c .nobody .ensures))
+returns-2 c = let k = found-before (c .before .before .before .before .before .before .args .t1 .«challengers_len») (c .before .before .before .before .before .before .args .v) (c .before .before .before .before .v .given .0 .0) (c .before .before .before .before .v .given .0 .1 .0) (c .before .before .before .before .v .given .1) (c .before .before .before .before .before .before .pre .1) in rw (c .before .before .before .before .v .given .1) (replace-left (c .before .before .before .before .before .before .args .t1) (c .before .before .before .before .before .before .pre .0 .0) (c .before .before .before .before .before .before .args .h) _ (c .before .before .before .before .v .given .0 .0) _ (c .before .before .before .before .v .given .0 .1 .0) (c .nobody .result) (c .before .before .before .before .before .before .pre .0 .1) (c .before .wrapping-add-u64 .ensures) k (c .nobody .ensures))
 
 pub replace-spec : {M : Type 1} → statement M
 replace-spec =

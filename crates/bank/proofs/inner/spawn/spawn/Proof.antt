@@ -1,4 +1,4 @@
-use Rattle.bank.proofs.Coming.{unchanged-is, unchanged-came, push-came, replace-came, spawn-is, roomy-yes, roomy-no, came-as}
+use Rattle.bank.proofs.Coming.{unchanged-is, unchanged-left, push-left, replace-left, spawn-is, roomy-yes, roomy-no, left-as}
 use Rattle.bank.proofs.Choosing.{found-before, victim-before}
 use mathlib.Core.Path.{_≡_, refl, ap, sym, _∙_}
 use Rattle.bank_model.proofs.Ready.{dit-log, dah-log, estimate-positive}
@@ -41,7 +41,7 @@ unchanged-requires c κs = search needs
 
 -- src/inner/spawn.rt:104:9
 returns : tie.Need-returns
-returns c = came-as _ _ _ (spawn-is (c .before .before .before .before .before .before .args .b) (c .before .before .before .before .before .before .pre .0) (c .before .before .before .before .before .before .args .lo) (c .before .before .before .before .before .before .args .hi) (c .before .before .before .before .before .before .args .o) _ _ _ (c .before .before .before .before .log-of .ensures) (c .before .before .before .log-of2 .ensures) true _ _ _ _ (c .before .before .duplicates .ensures) (c .before .if1 .taken) refl refl refl) (unchanged-came (c .before .before .before .before .before .before .args .b) _ (c .unchanged .ensures) (c .before .before .before .before .before .before .pre .0))
+returns c = left-as _ _ _ (spawn-is (c .before .before .before .before .before .before .args .b) (c .before .before .before .before .before .before .pre .0) (c .before .before .before .before .before .before .args .lo) (c .before .before .before .before .before .before .args .hi) (c .before .before .before .before .before .before .args .o) _ _ _ (c .before .before .before .before .log-of .ensures) (c .before .before .before .log-of2 .ensures) true _ _ _ _ (c .before .before .duplicates .ensures) (c .before .if1 .taken) refl refl refl) (unchanged-left (c .before .before .before .before .before .before .args .b) _ (c .unchanged .ensures) (c .before .before .before .before .before .before .pre .0))
 
 -- src/inner/spawn.rt:106:8
 any-twin-requires : tie.Need-any-twin-requires
@@ -53,7 +53,7 @@ unchanged-requires-2 c κs = search needs
 
 -- src/inner/spawn.rt:107:9
 returns-2 : tie.Need-returns-2
-returns-2 c = came-as _ _ _ (spawn-is (c .before .before .before .before .before .before .before .before .args .b) (c .before .before .before .before .before .before .before .before .pre .0) (c .before .before .before .before .before .before .before .before .args .lo) (c .before .before .before .before .before .before .before .before .args .hi) (c .before .before .before .before .before .before .before .before .args .o) _ _ _ (c .before .before .before .before .before .before .log-of .ensures) (c .before .before .before .before .before .log-of2 .ensures) false true _ _ _ (c .before .before .before .before .duplicates .ensures) (c .before .before .before .if1 .left) (c .before .before .any-twin .ensures) (c .before .if2 .taken) refl) (unchanged-came (c .before .before .before .before .before .before .before .before .args .b) _ (c .unchanged2 .ensures) (c .before .before .before .before .before .before .before .before .pre .0))
+returns-2 c = left-as _ _ _ (spawn-is (c .before .before .before .before .before .before .before .before .args .b) (c .before .before .before .before .before .before .before .before .pre .0) (c .before .before .before .before .before .before .before .before .args .lo) (c .before .before .before .before .before .before .before .before .args .hi) (c .before .before .before .before .before .before .before .before .args .o) _ _ _ (c .before .before .before .before .before .before .log-of .ensures) (c .before .before .before .before .before .log-of2 .ensures) false true _ _ _ (c .before .before .before .before .duplicates .ensures) (c .before .before .before .if1 .left) (c .before .before .any-twin .ensures) (c .before .if2 .taken) refl) (unchanged-left (c .before .before .before .before .before .before .before .before .args .b) _ (c .unchanged2 .ensures) (c .before .before .before .before .before .before .before .before .pre .0))
 
 -- src/inner/spawn.rt:109:9
 newborn-requires : tie.Need-newborn-requires
@@ -69,7 +69,7 @@ push-requires c κs = search needs
 
 -- src/inner/spawn.rt:112:9
 returns-3 : tie.Need-returns-3
-returns-3 c = came-as _ _ _ (ap (pushed (view (c .before .before .before .before .before .before .before .before .before .before .before .args .b))) (c .before .before .before .newborn .ensures .0) ∙ spawn-is (c .before .before .before .before .before .before .before .before .before .before .before .args .b) (c .before .before .before .before .before .before .before .before .before .before .before .pre .0) (c .before .before .before .before .before .before .before .before .before .before .before .args .lo) (c .before .before .before .before .before .before .before .before .before .before .before .args .hi) (c .before .before .before .before .before .before .before .before .before .before .before .args .o) _ _ _ (c .before .before .before .before .before .before .before .before .before .log-of .ensures) (c .before .before .before .before .before .before .before .before .log-of2 .ensures) false false true _ _ (c .before .before .before .before .before .before .before .duplicates .ensures) (c .before .before .before .before .before .before .if1 .left) (c .before .before .before .before .before .any-twin .ensures) (c .before .before .before .before .if2 .left) (roomy-yes (c .before .before .before .before .before .before .before .before .before .before .before .args .b) (c .before .before .before .before .before .before .before .before .before .before .before .pre .0) (c .before .if3 .taken))) (c .push .ensures)
+returns-3 c = left-as _ _ _ (ap (pushed (view (c .before .before .before .before .before .before .before .before .before .before .before .args .b))) (c .before .before .before .newborn .ensures .0) ∙ spawn-is (c .before .before .before .before .before .before .before .before .before .before .before .args .b) (c .before .before .before .before .before .before .before .before .before .before .before .pre .0) (c .before .before .before .before .before .before .before .before .before .before .before .args .lo) (c .before .before .before .before .before .before .before .before .before .before .before .args .hi) (c .before .before .before .before .before .before .before .before .before .before .before .args .o) _ _ _ (c .before .before .before .before .before .before .before .before .before .log-of .ensures) (c .before .before .before .before .before .before .before .before .log-of2 .ensures) false false true _ _ (c .before .before .before .before .before .before .before .duplicates .ensures) (c .before .before .before .before .before .before .if1 .left) (c .before .before .before .before .before .any-twin .ensures) (c .before .before .before .before .if2 .left) (roomy-yes (c .before .before .before .before .before .before .before .before .before .before .before .args .b) (c .before .before .before .before .before .before .before .before .before .before .before .pre .0) (c .before .if3 .taken))) (c .push .ensures)
 
 -- src/inner/spawn.rt:114:9
 victim-requires : tie.Need-victim-requires
@@ -81,7 +81,7 @@ replace-requires c κs = ((c .before .before .before .before .before .before .be
 
 -- src/inner/spawn.rt:95:1
 returns-4 : tie.Need-returns-4
-returns-4 c = came-as _ _ _ (ap (λ (h : Hyp). replacing (view (c .before .before .before .before .before .before .before .before .before .before .before .before .args .b)) h (place (c .before .victim .result))) (c .before .before .before .before .newborn .ensures .0) ∙ ap (λ (v : Best). replacing (view (c .before .before .before .before .before .before .before .before .before .before .before .before .args .b)) (newborn (view (c .before .before .before .before .before .before .before .before .before .before .before .before .args .b)) (Tracked.view (c .before .before .before .before .before .before .before .before .before .before .before .before .args .t)) (c .before .before .before .before .before .before .before .before .before .before .before .before .args .o)) (place v)) (c .before .victim .ensures) ∙ spawn-is (c .before .before .before .before .before .before .before .before .before .before .before .before .args .b) (c .before .before .before .before .before .before .before .before .before .before .before .before .pre .0) (c .before .before .before .before .before .before .before .before .before .before .before .before .args .lo) (c .before .before .before .before .before .before .before .before .before .before .before .before .args .hi) (c .before .before .before .before .before .before .before .before .before .before .before .before .args .o) _ _ _ (c .before .before .before .before .before .before .before .before .before .before .log-of .ensures) (c .before .before .before .before .before .before .before .before .before .log-of2 .ensures) false false false _ _ (c .before .before .before .before .before .before .before .before .duplicates .ensures) (c .before .before .before .before .before .before .before .if1 .left) (c .before .before .before .before .before .before .any-twin .ensures) (c .before .before .before .before .before .if2 .left) (roomy-no (c .before .before .before .before .before .before .before .before .before .before .before .before .args .b) (c .before .before .before .before .before .before .before .before .before .before .before .before .pre .0) (c .before .before .if3 .left))) (c .replace .ensures)
+returns-4 c = left-as _ _ _ (ap (λ (h : Hyp). replacing (view (c .before .before .before .before .before .before .before .before .before .before .before .before .args .b)) h (place (c .before .victim .result))) (c .before .before .before .before .newborn .ensures .0) ∙ ap (λ (v : Best). replacing (view (c .before .before .before .before .before .before .before .before .before .before .before .before .args .b)) (newborn (view (c .before .before .before .before .before .before .before .before .before .before .before .before .args .b)) (Tracked.view (c .before .before .before .before .before .before .before .before .before .before .before .before .args .t)) (c .before .before .before .before .before .before .before .before .before .before .before .before .args .o)) (place v)) (c .before .victim .ensures) ∙ spawn-is (c .before .before .before .before .before .before .before .before .before .before .before .before .args .b) (c .before .before .before .before .before .before .before .before .before .before .before .before .pre .0) (c .before .before .before .before .before .before .before .before .before .before .before .before .args .lo) (c .before .before .before .before .before .before .before .before .before .before .before .before .args .hi) (c .before .before .before .before .before .before .before .before .before .before .before .before .args .o) _ _ _ (c .before .before .before .before .before .before .before .before .before .before .log-of .ensures) (c .before .before .before .before .before .before .before .before .before .log-of2 .ensures) false false false _ _ (c .before .before .before .before .before .before .before .before .duplicates .ensures) (c .before .before .before .before .before .before .before .if1 .left) (c .before .before .before .before .before .before .any-twin .ensures) (c .before .before .before .before .before .if2 .left) (roomy-no (c .before .before .before .before .before .before .before .before .before .before .before .before .args .b) (c .before .before .before .before .before .before .before .before .before .before .before .before .pre .0) (c .before .before .if3 .left))) (c .replace .ensures)
 
 pub spawn-spec : {M : Type 1} → statement M
 spawn-spec =

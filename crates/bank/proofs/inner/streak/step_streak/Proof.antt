@@ -2,7 +2,7 @@ use Rattle.bank.proofs.Streaking.{extend-gap, extend-none, begun, empti
 use lib.ListN.{length}
 use mathlib.Core.Path.{_≡_, refl, ap, sym, _∙_}
 use mathlib.Core.Bool.{Bool, true, false}
-use Rattle.bank.proofs.Coming.{unchanged-came, came-as}
+use Rattle.bank.proofs.Coming.{unchanged-left, left-as}
 use Rattle.bank.specs.View.{given, view}
 use mathlib.Core.Option.{some, none}
 use Rattle.tracker.specs.Model as Tracked
@@ -30,7 +30,7 @@ unchanged-requires c κs = search needs
 
 -- src/inner/streak.rt:146:9
 returns : tie.Need-returns
-returns c = let l = c .before .before .before .grow .ensures .1 .steady .streaks .long in came-as _ _ _ (short-told (c .before .before .before .before .args .b) (c .before .before .before .grow .result) (c .before .before .before .before .args .lo) (c .before .before .before .before .args .hi) (c .before .before .before .before .args .side) (c .before .before .before .before .args .d) (given (c .before .before .before .before .args .has-gap) (c .before .before .before .before .args .gap)) (c .before .before .before .grow .ensures .0) (short-yes (c .before .before .before .grow .result) (c .before .before .before .grow .ensures .1) l (c .before .if1 .taken))) (unchanged-came (c .before .before .before .grow .result) _ (c .unchanged .ensures) (c .before .before .before .grow .ensures .1))
+returns c = let l = c .before .before .before .grow .ensures .1 .steady .streaks .long in left-as _ _ _ (short-told (c .before .before .before .before .args .b) (c .before .before .before .grow .result) (c .before .before .before .before .args .lo) (c .before .before .before .before .args .hi) (c .before .before .before .before .args .side) (c .before .before .before .before .args .d) (given (c .before .before .before .before .args .has-gap) (c .before .before .before .before .args .gap)) (c .before .before .before .grow .ensures .0) (short-yes (c .before .before .before .grow .result) (c .before .before .before .grow .ensures .1) l (c .before .if1 .taken))) (unchanged-left (c .before .before .before .grow .result) _ (c .unchanged .ensures) (c .before .before .before .grow .ensures .1))
 
 -- src/inner/streak.rt:148:9
 candidate-requires : tie.Need-candidate-requires
@@ -46,7 +46,7 @@ spawn-requires c κs = (c .before .before .empty .ensures .1, (c .before .before
 
 -- src/inner/streak.rt:152:9
 returns-2 : tie.Need-returns-2
-returns-2 c = let l = c .before .before .before .before .before .before .before .grow .ensures .1 .steady .streaks .long in came-as _ _ _ (long-told (c .before .before .before .before .before .before .before .before .args .b) (c .before .before .before .before .before .before .before .grow .result) (c .before .before .before .before .before .before .before .before .args .lo) (c .before .before .before .before .before .before .before .before .args .hi) (c .before .before .before .before .before .before .before .before .args .side) (c .before .before .before .before .before .before .before .before .args .d) (given (c .before .before .before .before .before .before .before .before .args .has-gap) (c .before .before .before .before .before .before .before .before .args .gap)) (c .before .before .before .before .before .before .before .grow .ensures .0) (c .before .before .before .empty .result) (some (Tracked.view (c .before .before .before .before .candidate .result .tracker))) (short-no (c .before .before .before .before .before .before .before .grow .result) (c .before .before .before .before .before .before .before .grow .ensures .1) l (c .before .before .before .before .before .if1 .left)) (c .before .before .before .empty .ensures .0) (sym (ap (λ (z : Bool). other z (c .before .before .before .before .candidate .result .tracker)) (c .before .before .if2 .taken)) ∙ c .before .before .before .before .candidate .ensures .0)) (c .spawn .ensures)
+returns-2 c = let l = c .before .before .before .before .before .before .before .grow .ensures .1 .steady .streaks .long in left-as _ _ _ (long-told (c .before .before .before .before .before .before .before .before .args .b) (c .before .before .before .before .before .before .before .grow .result) (c .before .before .before .before .before .before .before .before .args .lo) (c .before .before .before .before .before .before .before .before .args .hi) (c .before .before .before .before .before .before .before .before .args .side) (c .before .before .before .before .before .before .before .before .args .d) (given (c .before .before .before .before .before .before .before .before .args .has-gap) (c .before .before .before .before .before .before .before .before .args .gap)) (c .before .before .before .before .before .before .before .grow .ensures .0) (c .before .before .before .empty .result) (some (Tracked.view (c .before .before .before .before .candidate .result .tracker))) (short-no (c .before .before .before .before .before .before .before .grow .result) (c .before .before .before .before .before .before .before .grow .ensures .1) l (c .before .before .before .before .before .if1 .left)) (c .before .before .before .empty .ensures .0) (sym (ap (λ (z : Bool). other z (c .before .before .before .before .candidate .result .tracker)) (c .before .before .if2 .taken)) ∙ c .before .before .before .before .candidate .ensures .0)) (c .spawn .ensures)
 
 -- src/inner/streak.rt:154:5
 unchanged-requires-2 : tie.Need-unchanged-requires-2
@@ -54,7 +54,7 @@ unchanged-requires-2 c κs = search needs
 
 -- src/inner/streak.rt:138:1
 returns-3 : tie.Need-returns-3
-returns-3 c = let l = c .before .before .before .before .before .before .grow .ensures .1 .steady .streaks .long in came-as _ _ _ (long-told (c .before .before .before .before .before .before .before .args .b) (c .before .before .before .before .before .before .grow .result) (c .before .before .before .before .before .before .before .args .lo) (c .before .before .before .before .before .before .before .args .hi) (c .before .before .before .before .before .before .before .args .side) (c .before .before .before .before .before .before .before .args .d) (given (c .before .before .before .before .before .before .before .args .has-gap) (c .before .before .before .before .before .before .before .args .gap)) (c .before .before .before .before .before .before .grow .ensures .0) (c .before .before .empty .result) none (short-no (c .before .before .before .before .before .before .grow .result) (c .before .before .before .before .before .before .grow .ensures .1) l (c .before .before .before .before .if1 .left)) (c .before .before .empty .ensures .0) (sym (ap (λ (z : Bool). other z (c .before .before .before .candidate .result .tracker)) (c .before .if2 .left)) ∙ c .before .before .before .candidate .ensures .0)) (unchanged-came (c .before .before .empty .result) _ (c .unchanged2 .ensures) (c .before .before .empty .ensures .1))
+returns-3 c = let l = c .before .before .before .before .before .before .grow .ensures .1 .steady .streaks .long in left-as _ _ _ (long-told (c .before .before .before .before .before .before .before .args .b) (c .before .before .before .before .before .before .grow .result) (c .before .before .before .before .before .before .before .args .lo) (c .before .before .before .before .before .before .before .args .hi) (c .before .before .before .before .before .before .before .args .side) (c .before .before .before .before .before .before .before .args .d) (given (c .before .before .before .before .before .before .before .args .has-gap) (c .before .before .before .before .before .before .before .args .gap)) (c .before .before .before .before .before .before .grow .ensures .0) (c .before .before .empty .result) none (short-no (c .before .before .before .before .before .before .grow .result) (c .before .before .before .before .before .before .grow .ensures .1) l (c .before .before .before .before .if1 .left)) (c .before .before .empty .ensures .0) (sym (ap (λ (z : Bool). other z (c .before .before .before .candidate .result .tracker)) (c .before .if2 .left)) ∙ c .before .before .before .candidate .ensures .0)) (unchanged-left (c .before .before .empty .result) _ (c .unchanged2 .ensures) (c .before .before .empty .ensures .1))
 
 pub step-streak-spec : {M : Type 1} → statement M
 step-streak-spec =

@@ -5,7 +5,7 @@ use Rattle.station.proofs.inner.accept.accept.Statement.{statement}
 use Rattle.station.proofs.inner.accept.accept.Tie as tie
 
 tally-requires : tie.Need-tally-requires
-tally-requires c κs = (counts-small (c .before .before .before .args .s) (c .before .before .before .pre .0 .0) (c .before .before .before .pre .0 .1), c .before .before .before .pre .1 .1 .1)
+tally-requires c κs = (counts-small (c .before .before .before .args .s) (c .before .before .before .pre .0 .0) (c .before .before .before .pre .0 .1), c .before .before .before .pre .1 .1 .1 .few)
 
 add-t13 : tie.Need-add-t13
 add-t13 c = search needs

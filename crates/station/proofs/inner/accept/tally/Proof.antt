@@ -4,6 +4,7 @@ use Prim.Native.Nat.{_-_, _≤_}
 use native.Mathlib.Omega.{arith}
 use lib.ListN.{length}
 use Rattle.marks.proofs.Shifting.{unmapped}
+use Rattle.bank.specs.Parts.{mostLeft}
 use Rattle.station.specs.Parts.{AtMost}
 use Rattle.station.proofs.Tallying.{Tallying, tally-begins, tally-turns, tally-ends, tally-small}
 use borrow.Author.Needs.{needs}
@@ -11,13 +12,13 @@ use Rattle.station.proofs.inner.accept.tally.Statement.{statement}
 use Rattle.station.proofs.inner.accept.tally.Tie as tie
 
 abbrev Inv-loop : tie.InvT-loop
-Inv-loop n left c₀ i₀ c i = ((n ≤ 9) × (length left ≡ 9)) × (AtMost 4294967296 c₀ × Tallying c₀ left n c i)
+Inv-loop n left c₀ i₀ c i = ((n ≤ mostLeft) × (length left ≡ mostLeft)) × (AtMost 4294967296 c₀ × Tallying c₀ left n c i)
 
 abbrev μ-loop : tie.MeasureT-loop
 μ-loop n left c₀ i₀ c i = n - i
 
 loop-holds : tie.Need-loop-holds Inv-loop μ-loop
-loop-holds c = let l : length (c .args .t2) ≡ 9 = search (unmapped, needs) in ((c .pre .1, l), (c .pre .0, tally-begins _ _ _))
+loop-holds c = let l : length (c .args .t2) ≡ mostLeft = search (unmapped, needs) in ((c .pre .1, l), (c .pre .0, tally-begins _ _ _))
 
 mul-d : tie.Need-mul-d Inv-loop μ-loop
 mul-d c = let h = c .before .loop .inv .0 .0 in omega arith

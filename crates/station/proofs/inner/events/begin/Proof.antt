@@ -22,7 +22,7 @@ on-ready-requires : tie.Need-on-ready-requires
 on-ready-requires c κs = let s = c .before .before .before in let l : length (s .args .p .recent) ≡ 5 = unmapped _ (s .args .p .recent) 5 (s .good .1 .0 .1 .1 .1 .1 .1 .1 .1 .0 .1 .0 .1) in let h = counts standard (s .args .p) (s .pre .1) .recent in let e = front-long (s .args .p .recent) (s .args .p .«recent_len») (omega arith) in (s .pre .0 .0 .bank, (s .pre .1, (omega arith, durations-in _ (sound-fine standard (s .args .p) (s .pre .1) .recent))))
 
 accept-requires : tie.Need-accept-requires
-accept-requires c κs = let s = c .before .before .before .before in let f = c .on-ready .ensures .few in (s .pre .0, (s .pre .1, (c .on-ready .ensures .sturdy, omega arith)))
+accept-requires c κs = let s = c .before .before .before .before in (s .pre .0, (s .pre .1, (c .on-ready .ensures .sturdy, c .on-ready .ensures .listed)))
 
 returns : tie.Need-returns
 returns c = turn (view (c .before .before .before .before .before .args .s)) (c .accept .result) (as-told standard (view (c .before .before .before .before .before .args .s)) _ _ _ _ (c .before .on-ready .ensures .is)) (c .accept .ensures)

@@ -43,7 +43,7 @@ accept-requires : tie.Need-accept-requires
 accept-requires c κs =
     let s = c .before .before .before .before .before in
     let h = c .hear-beat .ensures in
-    (ready-for (s .args .s) (s .args .e) (s .pre .0) (s .pre .1 .free) (s .pre .1 .is) .0, (c .before .before .before .before .on-mark .ensures .1, (h .sturdy, h .few)))
+    (ready-for (s .args .s) (s .args .e) (s .pre .0) (s .pre .1 .free) (s .pre .1 .is) .0, (c .before .before .before .before .on-mark .ensures .1, (h .sturdy, h .listed)))
 
 -- src/inner/pace.rt:119:1
 returns : tie.Need-returns
