@@ -16,11 +16,12 @@ use Rattle.station.specs.declared.Station.{Station}
 use Rattle.station.specs.View.{view}
 use Rattle.station.specs.Parts.{Solid}
 use Rattle.plain_tracker.specs.Plain.{asNumber, carried, zeros}
+use Rattle.plain_sender.specs.Plain.{has, orNought}
 use Rattle.plain.specs.declared.PlainRecord.{PlainRecord}
 use Rattle.plain.specs.Plain.{plainRecord, blankRecord}
 use Rattle.hullathan.specs.declared.PlainRival.{PlainRival}
 use Rattle.hullathan.specs.declared.PlainReading.{PlainReading}
-use Rattle.hullathan.specs.Host.{has, noRival, orNought, padded, readingOf, rivalOf}
+use Rattle.hullathan.specs.Host.{noRival, padded, readingOf, rivalOf}
 use Rattle.hullathan.proofs.Rows.{array-padded, left-long, map-long}
 
 has-held : (b : Bool) (x : Float) → asNumber b ≡ has (Optional.held b x)

@@ -6,6 +6,7 @@ use native.Mathlib.Omega.{arith}
 use lib.ListN.{length, take}
 use lib.Ieee.{Float}
 use Rattle.bank_model.specs.declared.Departure.{Departure}
+use Rattle.bank.specs.Parts.{mostLeft}
 use Rattle.plain_tracker.specs.Plain.{carried, zeros}
 use Rattle.plain.specs.declared.PlainDeparture.{PlainDeparture}
 use Rattle.plain.specs.Plain.{plainDeparture, noDeparture}
@@ -44,8 +45,8 @@ map-long f [] = refl
 map-long f (x ∷ l) = ap suc (map-long f l)
 
 -- an answer, number by number
-pub row-made : (a : Answer) (lo hi : Float) (serial n code : ℕ) (left : List PlainDeparture) → code ≡ codeNumber (a .code) → left ≡ carried plainDeparture noDeparture (a .«left_len») (a .left) → length (a .left) ≡ 9
-    → a .«left_len» ≤ 9 → Row a lo hi serial n (record {
+pub row-made : (a : Answer) (lo hi : Float) (serial n code : ℕ) (left : List PlainDeparture) → code ≡ codeNumber (a .code) → left ≡ carried plainDeparture noDeparture (a .«left_len») (a .left) → length (a .left) ≡ mostLeft
+    → a .«left_len» ≤ mostLeft → Row a lo hi serial n (record {
       code = code;
       «pad_code» = zeros 3;
       «dit_ms» = lo;
@@ -64,7 +65,7 @@ row-made a lo hi serial n code left e f h k = record {
   pad-dah = refl;
   serial-is = refl;
   held = refl;
-  left = f ∙ array-padded plainDeparture noDeparture (a .left) (a .«left_len») 9 h;
+  left = f ∙ array-padded plainDeparture noDeparture (a .left) (a .«left_len») mostLeft h;
   many = sym (left-long (a .left) (a .«left_len») (omega arith));
 }
 

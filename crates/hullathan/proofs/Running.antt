@@ -12,6 +12,7 @@ use borrow.Author.Tests.{eq-eqb, ne-eqb, le-leb, lt-leb}
 use lib.Dec.{eqb, leb}
 use lib.ListN.{length, take, getD, set}
 use lib.Seq.{take-suc}
+use Rattle.bank.specs.Parts.{mostLeft}
 use Rattle.station_model.specs.declared.Event.{Event}
 use Rattle.station_model.specs.Station.{taken}
 use Rattle.station_model.specs.Station as Model
@@ -55,7 +56,7 @@ map-snoc : {A B : Type 0} (f : A → B) (l : List A) (x : A) → map f (l ++ (x 
 map-snoc f [] x = refl
 map-snoc f (y ∷ l) x = ap (λ r. f y ∷ r) (map-snoc f l x)
 
-few-snoc : (l : List Model.Outcome) (o : Model.Outcome) → Few l → length (o .answer .departures) ≤ 9 → Few (l ++ (o ∷ []))
+few-snoc : (l : List Model.Outcome) (o : Model.Outcome) → Few l → length (o .answer .departures) ≤ mostLeft → Few (l ++ (o ∷ []))
 unfolding Few
 few-snoc [] o f h = (h, tt)
 few-snoc (x ∷ l) o f h = (f .0, few-snoc l o (f .1) h)
@@ -68,7 +69,7 @@ over-snoc (z ∷ l) [] x h = absurd (omega arith)
 over-snoc (z ∷ l) (y ∷ old) x h = ap (λ r. z ∷ r) (over-snoc l old x (omega arith))
 
 -- where a place of the answers lies
-pub place-fits : (j n : ℕ) → j < n → n ≤ 64 → j * 184 < 2 ^ 64
+pub place-fits : (j n : ℕ) → j < n → n ≤ 64 → j * 152 < 2 ^ 64
 place-fits j n h k = omega arith
 
 -- ---- the loop: the first i events are answered
@@ -126,7 +127,7 @@ module _ (s : Station) (b : PlainBatch) (n : ℕ) where
         told = ap (λ (o : PlainBatch). stored o i x) (v .told)
             ∙ ap (λ (l : List PlainAnswer). record { len = b .len; events = b .events; answers = l })
             (ap (λ (j : ℕ). set (over (firstRows i) (b .answers)) j x) (sym long) ∙ over-snoc (firstRows i) (b .answers) x (omega arith) ∙ ap (λ (l : List PlainAnswer). over l (b .answers)) (sym rows));
-        few = subst Few (sym made) (few-snoc _ _ (v .few) (subst (λ (y : Model.Station). length (asked y e .answer .departures) ≤ 9) (v .state) (w .few)));
+        few = subst Few (sym made) (few-snoc _ _ (v .few) (subst (λ (y : Model.Station). length (asked y e .answer .departures) ≤ mostLeft) (v .state) (w .few)));
       }
 
   pub run-ends : (c : Station) (out : PlainBatch) (i : ℕ) (r : Ran) → n ≤ i → Running c out i → (r .code ≡ 0) × ((r .station ≡ plainStation c) × (r .batch ≡ out)) → Along s b n r

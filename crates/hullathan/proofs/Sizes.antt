@@ -3,6 +3,8 @@ use mathlib.Core.Path.{_≡_, refl}
 use Prim.Native.Nat.{ℕ}
 use borrow.Author.Tests.{ne-eqb}
 use prog.Memory.{size}
+use Rattle.sender.proofs.SenderTiming.Laws as N
+use Rattle.plain_sender.proofs.SenderReading.Laws as Q
 use Rattle.plain_station.proofs.PlainStation.Laws as S
 use Rattle.plain.proofs.PlainBank.Laws as K
 use Rattle.plain_tracker.proofs.PlainTracker.Laws as T
@@ -32,6 +34,12 @@ bank-long = refl
 
 pub tracker-long : size T.mir ≡ sizeOf 6
 tracker-long = refl
+
+pub sender-long : size N.mir ≡ sizeOf 7
+sender-long = refl
+
+pub sender-reading-long : size Q.mir ≡ sizeOf 8
+sender-reading-long = refl
 
 -- a number above 8 is no struct's
 pub no-size : (n : ℕ) → (n ≡ 0 → ⊥) → (n ≡ 1 → ⊥) → (n ≡ 2 → ⊥) → (n ≡ 3 → ⊥) → (n ≡ 4 → ⊥)

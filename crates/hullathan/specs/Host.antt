@@ -11,6 +11,7 @@ use Rattle.ranges.specs.Settings.{standard}
 use Rattle.ranges.specs.Limits.{nought}
 use Rattle.tracker.specs.Steps.{ditEstimate}
 use Rattle.bank_model.specs.Model.{Hyp}
+use Rattle.bank.specs.Parts.{mostLeft}
 use Rattle.station_model.specs.declared.Code.{Code}
 use Rattle.station_model.specs.declared.Code.the-variants.{Refused}
 use Rattle.station_model.specs.declared.Event.{Event}
@@ -20,6 +21,7 @@ use Rattle.station_model.specs.Station as Model
 use Rattle.station.specs.View.{view}
 use Rattle.station.specs.Sound.{sound}
 use Rattle.plain_tracker.specs.Plain.{asNumber, zeros}
+use Rattle.plain_sender.specs.Plain.{has, orNought}
 use Rattle.plain.specs.declared.PlainDeparture.{PlainDeparture}
 use Rattle.plain.specs.Plain.{plainDeparture, noDeparture, plainRecord, blankRecord}
 use Rattle.plain_station.specs.declared.PlainStation.{PlainStation}
@@ -107,7 +109,7 @@ rowOf o = record {
   «pad_dah_ms» = zeros 4;
   serial = o .station .serial;
   challengers = length (o .station .bank .challengers);
-  left = padded noDeparture 9 (map plainDeparture (o .answer .departures));
+  left = padded noDeparture mostLeft (map plainDeparture (o .answer .departures));
   «left_len» = length (o .answer .departures);
 }
 
@@ -121,7 +123,7 @@ barred = record {
   «pad_dah_ms» = zeros 4;
   serial = 0;
   challengers = 0;
-  left = padded noDeparture 9 [];
+  left = padded noDeparture mostLeft [];
   «left_len» = 0;
 }
 
@@ -134,9 +136,9 @@ switches n = not (eqb n 0)
 pub record Answers (e : Option Event) (p : PlainStation) (r : PlainAnswer) (q : PlainStation) : Type 0 where
   -- no sound station: refused by 1, and every byte as it was
   pub unsound : good p ≡ false → (r ≡ barred) × (q ≡ p)
-  -- else the answer is the defined one, and at most nine left
+  -- else the answer is the defined one, and no more left than there is room for
   pub told : good p ≡ true → r ≡ rowOf (asked (meant p) e)
-  pub few : good p ≡ true → length (asked (meant p) e .answer .departures) ≤ 9
+  pub few : good p ≡ true → length (asked (meant p) e .answer .departures) ≤ mostLeft
   -- a refused call leaves every byte as it was
   pub kept : good p ≡ true → taken (asked (meant p) e .answer .code) ≡ false → q ≡ p
   -- an accepted one leaves the defined station, sound, and what is no part of it empty
@@ -173,7 +175,7 @@ runnable p b = leb (b .len) 64 && good p
 
 unfoldable pub Few : List Model.Outcome → Type 0
 Few [] = Unit {0}
-Few (o ∷ l) = (length (o .answer .departures) ≤ 9) × Few l
+Few (o ∷ l) = (length (o .answer .departures) ≤ mostLeft) × Few l
 
 -- whether an event of them was accepted
 unfoldable pub anyTaken : List Model.Outcome → Bool
@@ -199,15 +201,6 @@ rivalOf h = record { serial = h .serial; «dit_ms» = h .tracker .pair .lo; «da
 
 abbrev pub noRival : PlainRival
 noRival = record { serial = 0; «dit_ms» = nought; «dah_ms» = nought; score = nought; «gap_score» = nought }
-
--- a number that may be absent: then it is 0
-abbrev pub has : Option Float → ℕ
-has none = 0
-has (some x) = 1
-
-abbrev pub orNought : Option Float → Float
-orNought none = nought
-orNought (some x) = x
 
 -- the challengers in their order, and the switch log, the oldest first
 abbrev pub readingOf : Model.Station → PlainReading

@@ -2,6 +2,9 @@
 use mathlib.Core.List.{List, [], _∷_}
 use Prim.Native.Nat.{ℕ, zero, suc, _+_}
 use lib.Ieee.{Float, binary32, ofBits}
+use Rattle.sender.specs.declared.ClassStats.{ClassStats}
+use Rattle.sender.specs.declared.SenderTiming.{SenderTiming}
+use Rattle.plain_sender.specs.declared.SenderReading.{SenderReading}
 use Rattle.plain_tracker.specs.declared.PlainPair.{PlainPair}
 use Rattle.plain_tracker.specs.declared.PlainEntry.{PlainEntry}
 use Rattle.plain_tracker.specs.declared.PlainTracker.{PlainTracker}
@@ -148,7 +151,7 @@ answer m = record {
   «pad_dah_ms» = bytes 4 (5 + m);
   serial = 6 + m;
   challengers = 7 + m;
-  left = ending 8 (departure 0) (departure 100);
+  left = ending 6 (departure 0) (departure 100);
   «left_len» = 9 + m;
 }
 
@@ -217,4 +220,25 @@ reading = record {
   rivals = ending 7 (rival 0) (rival 100);
   «log_len» = 25;
   log = ending 15 (record-at 0) (record-at 100);
+}
+
+abbrev pub stats : ClassStats
+stats = record { mean = record { 0 = float 1 }; var = float 2; n = 3 }
+
+abbrev pub sender : SenderTiming
+sender = record { dot = stats; dash = stats; «element_gap» = stats; «char_gap» = stats; «word_gap» = stats }
+
+abbrev pub sender-reading : SenderReading
+sender-reading = record {
+  code = 1;
+  «has_ratio» = 2;
+  «pad_has_ratio» = bytes 2 3;
+  «dit_ms» = float 4;
+  ratio = float 5;
+  «word_dits» = float 6;
+  dot = stats;
+  dash = stats;
+  «element_gap» = stats;
+  «char_gap» = stats;
+  «word_gap» = stats;
 }

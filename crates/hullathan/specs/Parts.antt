@@ -11,6 +11,7 @@ use Rattle.plain_tracker.specs.Plain.{zeros}
 use Rattle.plain.specs.Plain.{plainDeparture, noDeparture}
 use Rattle.tracker.specs.declared.Told as Starting
 use Rattle.tracker.specs.declared.Told.the-variants as Tell
+use Rattle.bank.specs.Parts.{mostLeft}
 use Rattle.station_model.specs.declared.Event.{Event}
 use Rattle.station_model.specs.Station.{number, taken}
 use Rattle.station_model.specs.Station as Model
@@ -41,7 +42,7 @@ startCode (Tell.Refused n) = 131
 pub record Turns (s : Station) (e : Option Event) (r : Outcome) : Type 0 where
   pub is : outcome r ≡ asked (view s) e
   pub solid : Solid (r .station)
-  pub few : r .answer .«left_len» ≤ 9
+  pub few : r .answer .«left_len» ≤ mostLeft
   pub small : number (r .answer .code) ≤ 12
 
 -- a form that means m, of a sound station, with no number in it that the station has not
@@ -53,7 +54,7 @@ pub record Means (q : PlainStation) (m : Model.Station) : Type 0 where
 -- a call on the sound station s, whose form is p
 pub record Handed (p : PlainStation) (s : Station) (e : Option Event) (r : Called) : Type 0 where
   pub told : r .answer ≡ rowOf (asked (view s) e)
-  pub few : length (asked (view s) e .answer .departures) ≤ 9
+  pub few : length (asked (view s) e .answer .departures) ≤ mostLeft
   pub kept : taken (asked (view s) e .answer .code) ≡ false → r .station ≡ p
   pub went : taken (asked (view s) e .answer .code) ≡ true → Means (r .station) (asked (view s) e .station)
 
@@ -62,7 +63,7 @@ pub record Told (s : Station) (e : Option Event) (t : Station) (r : PlainAnswer)
   pub solid : Solid t
   pub state : view t ≡ asked (view s) e .station
   pub row : r ≡ rowOf (asked (view s) e)
-  pub few : length (asked (view s) e .answer .departures) ≤ 9
+  pub few : length (asked (view s) e .answer .departures) ≤ mostLeft
 
 -- the first n events of b, on a sound station
 pub record Along (s : Station) (b : PlainBatch) (n : ℕ) (r : Ran) : Type 0 where
@@ -86,5 +87,5 @@ pub record Row (a : Answer) (lo hi : Float) (serial challengers : ℕ) (r : Plai
   pub pad-dah : r .«pad_dah_ms» ≡ zeros 4
   pub serial-is : r .serial ≡ serial
   pub held : r .challengers ≡ challengers
-  pub left : r .left ≡ padded noDeparture 9 (map plainDeparture (take (a .«left_len») (a .left)))
+  pub left : r .left ≡ padded noDeparture mostLeft (map plainDeparture (take (a .«left_len») (a .left)))
   pub many : r .«left_len» ≡ length (take (a .«left_len») (a .left))

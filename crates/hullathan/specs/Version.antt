@@ -2,6 +2,7 @@
 use mathlib.Core.Bool.{cond}
 use Prim.Native.Nat.{ℕ, _+_, _*_}
 use lib.Dec.{eqb}
+use Rattle.bank.specs.Parts.{mostLeft}
 
 -- one more with each change of a struct or of a function that hosts have
 abbrev pub version : ℕ
@@ -35,7 +36,7 @@ abbrev pub departure : ℕ
 departure = 8 + 1 + 7
 
 abbrev pub answer : ℕ
-answer = 1 + 3 + 4 + 4 + 4 + 8 + 8 + 9 * departure + 8
+answer = 1 + 3 + 4 + 4 + 4 + 8 + 8 + mostLeft * departure + 8
 
 abbrev pub event : ℕ
 event = 1 + 1 + 2 + 4

@@ -5,14 +5,19 @@ use crate::PlainBatch;
 use crate::PlainEvent;
 use crate::PlainReading;
 use crate::PlainRival;
+use bank_model::MOST_LEFT;
 use plain::PlainBank;
 use plain::PlainDeparture;
 use plain::PlainHypothesis;
 use plain::PlainRecord;
+use plain_sender::SenderReading;
 use plain_station::PlainStation;
 use plain_tracker::PlainEntry;
 use plain_tracker::PlainPair;
 use plain_tracker::PlainTracker;
+use sender::ClassStats;
+use sender::Dits;
+use sender::SenderTiming;
 ghost use mathlib.Core.Path.{_≡_};
 ghost use Prim.Native.Nat.{_+_, _≤_};
 ghost use Rattle.hullathan.specs.Layout as Placed;
@@ -267,8 +272,8 @@ pub(crate) fn answer_placed(m: u8) -> PlainAnswer
     let k = m as u32;
     let d = departure_placed(0);
     let z = departure_placed(100);
-    let mut left = [d; 9];
-    left[8] = z;
+    let mut left = [d; MOST_LEFT];
+    left[6] = z;
     PlainAnswer {
         code: 1 + m,
         pad_code: bytes_3(2 + m),
@@ -394,5 +399,52 @@ pub extern "C" fn hullathan_layout_reading() -> PlainReading
         rivals,
         log_len: 25,
         log,
+    }
+}
+
+pub(crate) fn stats_placed() -> ClassStats
+    ensures { λ r. ⌜ r ≡ Placed.stats ⌝ }
+{
+    let mean = Dits(float_at(1));
+    ClassStats {
+        mean,
+        var: float_at(2),
+        n: 3,
+    }
+}
+
+// A sender's statistics.
+#[no_mangle]
+pub extern "C" fn hullathan_layout_sender() -> SenderTiming
+    ensures { λ r. ⌜ r ≡ Placed.sender ⌝ }
+{
+    let c = stats_placed();
+    SenderTiming {
+        dot: c,
+        dash: c,
+        element_gap: c,
+        char_gap: c,
+        word_gap: c,
+    }
+}
+
+// What is read of a sender.
+#[no_mangle]
+pub extern "C" fn hullathan_layout_sender_reading() -> SenderReading
+    ensures { λ r. ⌜ r ≡ Placed.sender-reading ⌝ }
+{
+    let c = stats_placed();
+    SenderReading {
+        code: 1,
+        has_ratio: 2,
+        pad_has_ratio: bytes_2(3),
+        dit_ms: float_at(4),
+        ratio: float_at(5),
+        word_dits: float_at(6),
+        dot: c,
+        dash: c,
+        element_gap: c,
+        char_gap: c,
+        word_gap: c,
     }
 }

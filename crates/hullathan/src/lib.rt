@@ -1,9 +1,11 @@
 // The library for receivers: a station held in the host's own memory, in C or Rust. No function asks anything of its caller: whatever bytes stand
 // in that memory, a call does its work or refuses by document 01's number.
+use bank_model::MOST_LEFT;
 use plain::PlainDeparture;
 use plain::PlainRecord;
 use plain_station::PlainStation;
 
+pub mod banks;
 pub mod batch;
 pub mod call;
 pub mod event;
@@ -11,6 +13,7 @@ pub mod hosts;
 pub mod inner;
 pub mod layout;
 pub mod read;
+pub mod senders;
 pub mod start;
 pub mod version;
 
@@ -34,7 +37,7 @@ pub struct PlainAnswer {
     pub pad_dah_ms: [u8; 4],
     pub serial: u64,
     pub challengers: usize,
-    pub left: [PlainDeparture; 9],
+    pub left: [PlainDeparture; MOST_LEFT],
     pub left_len: usize,
 }
 

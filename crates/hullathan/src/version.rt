@@ -18,9 +18,9 @@ pub extern "C" fn hullathan_size(what: u8) -> usize
 {
     match what {
         0 => 4056,
-        1 => 184,
+        1 => 152,
         2 => 8,
-        3 => 12296,
+        3 => 10248,
         4 => 712,
         5 => 3656,
         6 => 344,
