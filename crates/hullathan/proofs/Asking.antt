@@ -19,6 +19,7 @@ use Rattle.tracker.specs.Steps as Tracking
 use Rattle.bank_model.specs.declared.Departure.{Departure}
 use Rattle.bank_model.specs.Steps.{takeSwitch}
 use Rattle.bank.specs.View.{given}
+use Rattle.bank.specs.Parts.{mostLeft}
 use Rattle.station_model.specs.declared.Code.{Code}
 use Rattle.station_model.specs.declared.Code.the-variants as Codes
 use Rattle.station_model.specs.declared.Event.{Event}
@@ -29,7 +30,7 @@ use Rattle.station_model.proofs.Lists.{by-cond}
 use Rattle.station.specs.declared.Station.{Station}
 use Rattle.station.specs.declared.Outcome.{Outcome}
 use Rattle.station.specs.View.{outcome, view}
-use Rattle.station.specs.Parts.{Next, Solid, Steady}
+use Rattle.station.specs.Parts.{Next, Solid, Steady, noneLeft}
 use Rattle.station.specs.Sound.{sound}
 use Rattle.station.specs.Sound as Struct
 use Rattle.station.specs.Answers.{Called, callRefusal}
@@ -97,16 +98,17 @@ refusal-small s e = by-cond Small (full s) (λ i. omega arith) (λ i. fault-smal
 pub record Sorted (m : Model.Station) (o : Model.Outcome) : Type 0 where
   pub small : number (o .answer .code) ≤ 12
   pub same : taken (o .answer .code) ≡ false → o .station ≡ m
+  pub counts : taken (o .answer .code) ≡ true → o .station .accepted ≡ m .accepted + 1
 
 abbrev Sorts : Model.Station → Model.Outcome → Type 0
 Sorts m o = Sorted m o
 
 refused-sorts : (m : Model.Station) (n : ℕ) → n ≤ 12 → Sorted m (refusedBy n m)
-refused-sorts m n h = record { small = h; same = λ e. refl }
+refused-sorts m n h = record { small = h; same = λ e. refl; counts = λ e. absurd (true≢false (sym e)) }
 
 outcome-sorts : (m : Model.Station) (e : Event) (n : ℕ) → n ≤ 8 → Sorted m (Model.outcome standard m e n)
-outcome-sorts m e zero h = let a = acts standard m e in let b = a .1 in record { small = omega arith; same = λ f. absurd (true≢false (sym (a .0) ∙ f)) }
-outcome-sorts m e (suc n) h = record { small = omega arith; same = λ f. refl }
+outcome-sorts m e zero h = let a = acts standard m e in let b = a .1 in record { small = omega arith; same = λ f. absurd (true≢false (sym (a .0) ∙ f)); counts = λ f. refl }
+outcome-sorts m e (suc n) h = record { small = omega arith; same = λ f. refl; counts = λ f. absurd (true≢false (sym f)) }
 
 step-sorts : (m : Model.Station) (e : Event) → Sorted m (step standard m e)
 unfolding step
@@ -196,21 +198,22 @@ steady-of s b h e t = record { solid = h; unready = given-none (s .bank .«has_p
 
 -- ---- one turn
 
-turns-as : (s : Station) (q : Option Event) (o : Outcome) → outcome o ≡ asked (view s) q → Solid (o .station) → o .answer .«left_len» ≤ 9 → Turns s q o
+turns-as : (s : Station) (q : Option Event) (o : Outcome) → outcome o ≡ asked (view s) q → Solid (o .station) → o .answer .«left_len» ≤ mostLeft → Turns s q o
 turns-as s q o e h l = record { is = e; solid = h; few = l; small = subst (λ (r : Model.Outcome). number (r .answer .code) ≤ 12) (sym e) (asked-sorts (view s) q .small) }
 
 pub turns-call : (s : Station) (e : Event) (o : Outcome) → Solid s → Called standard s e o × Solid (o .station) → Turns s (some e) o
-turns-call s e o h c = turns-as s (some e) o (call-asked s e o (solid-sound s h) (c .0)) (c .1) (c .0 .few)
+turns-call s e o h c = turns-as s (some e) o (call-asked s e o (solid-sound s h) (c .0)) (c .1) (c .0 .listed .few)
 
 pub turns-next : (s : Station) (e : Event) (o : Outcome) → Steady s → Next s e o → Turns s (some e) o
 unfolding asked
-turns-next s e o h n = turns-as s (some e) o (n .is ∙ rw (quiet-choice (view s) e (h .unready))) (n .steady .solid) (n .few)
+turns-next s e o h n = turns-as s (some e) o (n .is ∙ rw (quiet-choice (view s) e (h .unready))) (n .steady .solid) (n .listed .few)
 
-pub turns-none : (s : Station) (n : ℕ) (o : Outcome) → Solid s → n ≡ cond (full (view s)) 2 12 → (o .answer .code ≡ Codes.Refused n) × ((o .station ≡ s) × (o .answer .«left_len» ≡ 0)) → Turns s none o
+pub turns-none : (s : Station) (n : ℕ) (o : Outcome) → Solid s → n ≡ cond (full (view s)) 2 12 → o ≡ noneLeft s (Codes.Refused n) → Turns s none o
 unfolding asked
 turns-none s n o h e c =
-    let l = c .1 .1 in
-    turns-as s none o (refused-is s n o (c .0) (c .1 .0) (c .1 .1) ∙ ap (λ (j : ℕ). refusedBy j (view s)) e) (subst Solid (sym (c .1 .0)) h) (omega arith)
+    let w = ap (λ (x : Outcome). x .station) c in
+    let l = ap (λ (x : Outcome). x .answer .«left_len») c in
+    turns-as s none o (refused-is s n o (ap (λ (x : Outcome). x .answer .code) c) w l ∙ ap (λ (j : ℕ). refusedBy j (view s)) e) (subst Solid (sym w) h) (omega arith)
 
 -- ---- the number of a refusal, behind its 128
 pub code-fits : (c : Code) (n : ℕ) → c ≡ Codes.Refused n → number c ≤ 12 → 128 + n < 2 ^ 8

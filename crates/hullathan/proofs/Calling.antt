@@ -6,6 +6,7 @@ use mathlib.Core.Option.{Option, none, some}
 use Prim.Native.Nat.{ℕ, zero, suc, _≤_}
 use native.Mathlib.Omega.{arith}
 use lib.ListN.{length, take}
+use Rattle.bank.specs.Parts.{mostLeft}
 use Rattle.station_model.specs.declared.Event.{Event}
 use Rattle.station_model.specs.Station.{number, taken}
 use Rattle.station_model.specs.Station as Model
@@ -33,18 +34,18 @@ abbrev codeTaken : Model.Outcome → Bool
 codeTaken o = taken (o .answer .code)
 
 -- ---- what a turn says of those that left
-pub turn-few : (s : Station) (e : Option Event) (o : Outcome) → Turns s e o → length (asked (view s) e .answer .departures) ≤ 9
+pub turn-few : (s : Station) (e : Option Event) (o : Outcome) → Turns s e o → length (asked (view s) e .answer .departures) ≤ mostLeft
 turn-few s e o h =
     let k = taken-few (o .answer .left) (o .answer .«left_len») in
     let w = h .few in
-    subst (λ (m : Model.Outcome). length (m .answer .departures) ≤ 9) (h .is) (omega arith)
+    subst (λ (m : Model.Outcome). length (m .answer .departures) ≤ mostLeft) (h .is) (omega arith)
 
 -- ---- one event of a batch
 pub told-as : (s : Station) (e q : Option Event) (o : Outcome) (r : PlainAnswer) → q ≡ e → Turns s q o → r ≡ rowOf (outcome o) → Told s e (o .station) r
 told-as s e q o r k h f = subst (λ (z : Option Event). Told s z (o .station) r) k (record { solid = h .solid; state = ap (λ (m : Model.Outcome). m .station) (h .is); row = f ∙ ap rowOf (h .is); few = turn-few s q o h })
 
 -- an event of the loop that goes the short ways
-pub next-fits : (s : Station) (v : Event) (o : Outcome) → Steady s → Next s v o → (number (o .answer .code) ≤ 12) × (o .answer .«left_len» ≤ 9)
+pub next-fits : (s : Station) (v : Event) (o : Outcome) → Steady s → Next s v o → (number (o .answer .code) ≤ 12) × (o .answer .«left_len» ≤ mostLeft)
 next-fits s v o h n = let t = turns-next s v o h n in (t .small, t .few)
 
 pub next-told : (s : Station) (v : Event) (e : Option Event) (o : Outcome) (r : PlainAnswer) → Steady s → some v ≡ e → Next s v o
@@ -73,7 +74,7 @@ handed p s e o r q h f g =
 abbrev pub Finds : PlainStation → Outcome → Called → Type 0
 Finds p o r = (r .answer ≡ rowOf (outcome o)) × (r .station ≡ cond (taken (o .answer .code)) (plainStation (o .station)) p)
 
-pub turn-fits : (s : Station) (e : Option Event) (o : Outcome) → Turns s e o → ((number (o .answer .code) ≤ 12) × (o .answer .«left_len» ≤ 9)) × Solid (o .station)
+pub turn-fits : (s : Station) (e : Option Event) (o : Outcome) → Turns s e o → ((number (o .answer .code) ≤ 12) × (o .answer .«left_len» ≤ mostLeft)) × Solid (o .station)
 turn-fits s e o t = ((t .small, t .few), t .solid)
 
 pub turn-handed : (p : PlainStation) (s : Station) (e : Option Event) (o : Outcome) (r : Called) → Turns s e o → Finds p o r → Handed p s e r

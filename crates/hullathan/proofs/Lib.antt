@@ -6,3 +6,4 @@ pub mod Running
 pub mod Reading
 pub mod Promising
 pub mod Starting
+pub mod Sizes

@@ -14,6 +14,7 @@ use Rattle.ranges.proofs.Standard.{standard-good, standard-held}
 use Rattle.bank_model.specs.declared.Cause.{Cause}
 use Rattle.bank_model.specs.declared.Cause.the-variants.{Twin, Outscored, Aged, Replaced, Cleared}
 use Rattle.bank_model.specs.declared.Departure.{Departure}
+use Rattle.bank.specs.Parts.{mostLeft}
 use Rattle.station_model.specs.declared.Code.{Code}
 use Rattle.station_model.specs.declared.Code.the-variants.{Done, BecameReady, Switched, Nothing, Refused}
 use Rattle.station_model.specs.declared.Event.{Event}
@@ -25,7 +26,7 @@ use Rattle.station_model.proofs.Lists.{by-cond}
 use Rattle.station_model.proofs.Whole.{program-watch}
 use Rattle.station.proofs.Watching.{same}
 use Rattle.plain.specs.declared.PlainDeparture.{PlainDeparture}
-use Rattle.plain.specs.Plain.{causeCode, plainDeparture}
+use Rattle.plain.specs.Plain.{causeCode, noDeparture, plainDeparture}
 use Rattle.plain_station.specs.declared.PlainStation.{PlainStation}
 use Rattle.hullathan.specs.declared.PlainAnswer.{PlainAnswer}
 use Rattle.hullathan.specs.declared.PlainBatch.{PlainBatch}
@@ -62,7 +63,7 @@ left-back : (l : List Departure) → map departureOf (map plainDeparture l) ≡ 
 left-back [] = refl
 left-back (d ∷ l) = λ i. gone (d .serial) (cause-back (d .cause) i) ∷ left-back l i
 
-take-padded : (k : ℕ) (l : List Departure) → length l ≤ k → take (length l) (padded k (map plainDeparture l)) ≡ map plainDeparture l
+take-padded : (k : ℕ) (l : List Departure) → length l ≤ k → take (length l) (padded noDeparture k (map plainDeparture l)) ≡ map plainDeparture l
 unfolding padded
 take-padded k [] h = refl
 take-padded zero (d ∷ l) h = absurd (omega arith)
@@ -71,8 +72,8 @@ take-padded (suc k) (d ∷ l) h = ap (λ (r : List PlainDeparture). plainDepartu
 abbrev an-answer : Code → List Departure → Model.Answer
 an-answer c l = record { code = c; departures = l }
 
-row-back : (o : Model.Outcome) → length (o .answer .departures) ≤ 9 → answerOf (rowOf o) ≡ o .answer
-row-back o h = λ i. an-answer (code-back (o .answer .code) i) ((ap (map departureOf) (take-padded 9 (o .answer .departures) h) ∙ left-back (o .answer .departures)) i)
+row-back : (o : Model.Outcome) → length (o .answer .departures) ≤ mostLeft → answerOf (rowOf o) ≡ o .answer
+row-back o h = λ i. an-answer (code-back (o .answer .code) i) ((ap (map departureOf) (take-padded mostLeft (o .answer .departures) h) ∙ left-back (o .answer .departures)) i)
 
 -- ---- a station of a watch is never refused by 1
 
@@ -159,7 +160,7 @@ carries-any n live x h =
 abbrev From : Model.Station → Runs → Model.Station → Type 0
 From = RanFrom afterwards Called
 
-add-from : (start : Model.Station) (o : Option Event) (m : Model.Station) (l : Runs) → CarriesAny o → length (asked m o .answer .departures) ≤ 9 → From start l m → From start (addRun o (rowOf (asked m o)) m l) (asked m o .station)
+add-from : (start : Model.Station) (o : Option Event) (m : Model.Station) (l : Runs) → CarriesAny o → length (asked m o .answer .departures) ≤ mostLeft → From start l m → From start (addRun o (rowOf (asked m o)) m l) (asked m o .station)
 unfolding RanFrom asked
 add-from start none m l c h t = t
 add-from start (some e) m l c h t = (t, (c, (refl, row-back (asked m (some e)) h)), refl)

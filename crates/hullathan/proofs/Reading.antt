@@ -15,11 +15,14 @@ use Rattle.rival.specs.View.{viewHyp}
 use Rattle.station.specs.declared.Station.{Station}
 use Rattle.station.specs.View.{view}
 use Rattle.station.specs.Parts.{Solid}
-use Rattle.plain_tracker.specs.Plain.{asNumber}
+use Rattle.plain_tracker.specs.Plain.{asNumber, carried, zeros}
+use Rattle.plain_sender.specs.Plain.{has, orNought}
+use Rattle.plain.specs.declared.PlainRecord.{PlainRecord}
+use Rattle.plain.specs.Plain.{plainRecord, blankRecord}
 use Rattle.hullathan.specs.declared.PlainRival.{PlainRival}
 use Rattle.hullathan.specs.declared.PlainReading.{PlainReading}
-use Rattle.hullathan.specs.Host.{has, orNought, readingOf, shown}
-use Rattle.hullathan.proofs.Rows.{left-long, map-long}
+use Rattle.hullathan.specs.Host.{noRival, padded, readingOf, rivalOf}
+use Rattle.hullathan.proofs.Rows.{array-padded, left-long, map-long}
 
 has-held : (b : Bool) (x : Float) → asNumber b ≡ has (Optional.held b x)
 has-held true x = refl
@@ -29,13 +32,15 @@ held-or : (b : Bool) (x : Float) → cond b x nought ≡ orNought (Optional.held
 held-or true x = refl
 held-or false x = refl
 
-pub reading-is : (s : Station) (ready wpm switching : ℕ) (estimate speed : Float) (rivals : List PlainRival) → Solid s → ready ≡ asNumber (s .primary .pair .ready) → wpm ≡ asNumber (s .primary .«has_wpm»)
-    → switching ≡ asNumber (s .bank .switching) → estimate ≡ ditEstimate standard (Tracked.view (s .primary)) → speed ≡ cond (s .primary .«has_wpm») (s .primary .«wpm_ema») nought → rivals ≡ shown 8 (view s .bank .challengers)
+pub reading-is : (s : Station) (ready wpm switching : ℕ) (estimate speed : Float) (rivals : List PlainRival) (log : List PlainRecord) → Solid s → ready ≡ asNumber (s .primary .pair .ready) → wpm ≡ asNumber (s .primary .«has_wpm»)
+    → switching ≡ asNumber (s .bank .switching) → estimate ≡ ditEstimate standard (Tracked.view (s .primary)) → speed ≡ cond (s .primary .«has_wpm») (s .primary .«wpm_ema») nought → rivals ≡ padded noRival 8 (map rivalOf (view s .bank .challengers))
+    → log ≡ carried plainRecord blankRecord (s .bank .«log_len») (s .bank .log)
     → record {
       code = 0;
       ready = ready;
       «has_wpm» = wpm;
       switching = switching;
+      «pad_switching» = zeros 4;
       width = s .bank .width;
       «dit_ms» = s .primary .pair .lo;
       «dah_ms» = s .primary .pair .hi;
@@ -55,17 +60,24 @@ pub reading-is : (s : Station) (ready wpm switching : ℕ) (estimate speed : Flo
       cleared = s .counts .cleared;
       challengers = s .bank .«challengers_len»;
       rivals = rivals;
+      «log_len» = s .bank .«log_len»;
+      log = log;
     } ≡ readingOf (view s)
-reading-is s ready wpm switching estimate speed rivals h a b c d e f =
+reading-is s ready wpm switching estimate speed rivals log h a b c d e f g =
     let few = h .bank .steady .crew .few in
     let wide = h .bank .steady .crew .long in
     let n = s .bank .«challengers_len» in
     let many : n ≡ length (map viewHyp (take n (s .bank .challengers))) = sym (map-long viewHyp (take n (s .bank .challengers)) ∙ left-long (s .bank .challengers) n (omega arith)) in
+    let few-logged = h .bank .steady .log .few in
+    let log-long = h .bank .steady .log .long in
+    let m = s .bank .«log_len» in
+    let logged : m ≡ length (take m (s .bank .log)) = sym (left-long (s .bank .log) m (omega arith)) in
     λ i. record {
       code = 0;
       ready = a i;
       «has_wpm» = (b ∙ has-held (s .primary .«has_wpm») (s .primary .«wpm_ema»)) i;
       switching = c i;
+      «pad_switching» = zeros 4;
       width = s .bank .width;
       «dit_ms» = s .primary .pair .lo;
       «dah_ms» = s .primary .pair .hi;
@@ -85,4 +97,6 @@ reading-is s ready wpm switching estimate speed rivals h a b c d e f =
       cleared = s .counts .cleared;
       challengers = many i;
       rivals = f i;
+      «log_len» = logged i;
+      log = (g ∙ array-padded plainRecord blankRecord (s .bank .log) m 16 log-long) i;
     }

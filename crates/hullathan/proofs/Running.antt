@@ -1,6 +1,6 @@
 -- The loop over a batch. Assumes nothing.
 use mathlib.Core.Path.{_≡_, refl, ap, sym, _∙_, subst}
-use mathlib.Core.Bool.{Bool, true, false, true≢false, _&&_}
+use mathlib.Core.Bool.{Bool, true, false, cond, true≢false, _&&_, _||_}
 use mathlib.Core.List.{List, [], _∷_, _++_, map}
 use mathlib.Core.Option.{Option}
 use Prim.Native.Nat.{ℕ, zero, suc, _+_, _*_, _^_, _≤_, _<_}
@@ -8,11 +8,13 @@ use native.Mathlib.Numerals.{add-one}
 use native.Mathlib.Omega.{arith}
 use native.Mathlib.Decide.{decLe}
 use native.Mathlib.Nat.{lt-of-not-le}
-use borrow.Author.Tests.{le-leb, lt-leb}
-use lib.Dec.{leb}
+use borrow.Author.Tests.{eq-eqb, ne-eqb, le-leb, lt-leb}
+use lib.Dec.{eqb, leb}
 use lib.ListN.{length, take, getD, set}
 use lib.Seq.{take-suc}
+use Rattle.bank.specs.Parts.{mostLeft}
 use Rattle.station_model.specs.declared.Event.{Event}
+use Rattle.station_model.specs.Station.{taken}
 use Rattle.station_model.specs.Station as Model
 use Rattle.station.specs.declared.Station.{Station}
 use Rattle.station.specs.View.{view}
@@ -24,8 +26,9 @@ use Rattle.hullathan.specs.declared.PlainAnswer.{PlainAnswer}
 use Rattle.hullathan.specs.declared.PlainBatch.{PlainBatch}
 use Rattle.hullathan.specs.declared.PlainEvent.{PlainEvent}
 use Rattle.hullathan.specs.declared.Ran.{Ran}
-use Rattle.hullathan.specs.Host.{Few, Runs, after, asked, good, meant, ofEvent, outcomes, over, rowOf, runnable, withAnswers}
-use Rattle.hullathan.specs.Parts.{Along, Means, Told}
+use Rattle.hullathan.specs.Host.{Few, Neat, Runs, after, anyTaken, asked, good, meant, ofEvent, outcomes, over, rowOf, runnable, withAnswers}
+use Rattle.hullathan.specs.Parts.{Along, Kept, Means, Told}
+use Rattle.hullathan.proofs.Asking.{asked-sorts}
 use Rattle.hullathan.proofs.Forms.{form-means}
 use Rattle.hullathan.proofs.Rows.{left-long, map-long}
 
@@ -53,7 +56,7 @@ map-snoc : {A B : Type 0} (f : A → B) (l : List A) (x : A) → map f (l ++ (x 
 map-snoc f [] x = refl
 map-snoc f (y ∷ l) x = ap (λ r. f y ∷ r) (map-snoc f l x)
 
-few-snoc : (l : List Model.Outcome) (o : Model.Outcome) → Few l → length (o .answer .departures) ≤ 9 → Few (l ++ (o ∷ []))
+few-snoc : (l : List Model.Outcome) (o : Model.Outcome) → Few l → length (o .answer .departures) ≤ mostLeft → Few (l ++ (o ∷ []))
 unfolding Few
 few-snoc [] o f h = (h, tt)
 few-snoc (x ∷ l) o f h = (f .0, few-snoc l o (f .1) h)
@@ -66,7 +69,7 @@ over-snoc (z ∷ l) [] x h = absurd (omega arith)
 over-snoc (z ∷ l) (y ∷ old) x h = ap (λ r. z ∷ r) (over-snoc l old x (omega arith))
 
 -- where a place of the answers lies
-pub place-fits : (j n : ℕ) → j < n → n ≤ 64 → j * 184 < 2 ^ 64
+pub place-fits : (j n : ℕ) → j < n → n ≤ 64 → j * 152 < 2 ^ 64
 place-fits j n h k = omega arith
 
 -- ---- the loop: the first i events are answered
@@ -124,7 +127,7 @@ module _ (s : Station) (b : PlainBatch) (n : ℕ) where
         told = ap (λ (o : PlainBatch). stored o i x) (v .told)
             ∙ ap (λ (l : List PlainAnswer). record { len = b .len; events = b .events; answers = l })
             (ap (λ (j : ℕ). set (over (firstRows i) (b .answers)) j x) (sym long) ∙ over-snoc (firstRows i) (b .answers) x (omega arith) ∙ ap (λ (l : List PlainAnswer). over l (b .answers)) (sym rows));
-        few = subst Few (sym made) (few-snoc _ _ (v .few) (subst (λ (y : Model.Station). length (asked y e .answer .departures) ≤ 9) (v .state) (w .few)));
+        few = subst Few (sym made) (few-snoc _ _ (v .few) (subst (λ (y : Model.Station). length (asked y e .answer .departures) ≤ mostLeft) (v .state) (w .few)));
       }
 
   pub run-ends : (c : Station) (out : PlainBatch) (i : ℕ) (r : Ran) → n ≤ i → Running c out i → (r .code ≡ 0) × ((r .station ≡ plainStation c) × (r .batch ≡ out)) → Along s b n r
@@ -138,20 +141,104 @@ module _ (s : Station) (b : PlainBatch) (n : ℕ) where
         means = form-means c (r .station) _ (e .1 .0) (v .state ∙ ap (λ (m : ℕ). after (view s) (firstEvents m)) j) (solid-sound c (v .solid));
       }
 
+-- ---- the station counts what was accepted
+
+neither : (a b : Bool) → (a || b) ≡ false → (a ≡ false) × (b ≡ false)
+neither true b h = absurd (true≢false h)
+neither false b h = (refl, h)
+
+none-taken : (m : Model.Station) (l : Events) → anyTaken (outcomes m l) ≡ false → after m l ≡ m
+unfolding after outcomes anyTaken
+none-taken m [] h = refl
+none-taken m (e ∷ l) h =
+    let a = neither (taken (asked m e .answer .code)) (anyTaken (outcomes (asked m e .station) l)) h in
+    none-taken (asked m e .station) l (a .1) ∙ asked-sorts m e .same (a .0)
+
+-- two cases of a test
+by-test : {P : Type 0} (b : Bool) → (b ≡ true → P) → (b ≡ false → P) → P
+by-test true f g = f refl
+by-test false f g = g refl
+
+no-fewer : (m : Model.Station) (e : Option Event) → m .accepted ≤ asked m e .station .accepted
+no-fewer m e =
+    by-test (taken (asked m e .answer .code))
+    (λ t. (let c = asked-sorts m e .counts t in omega arith))
+    (λ t. (let c = ap (λ (z : Model.Station). z .accepted) (asked-sorts m e .same t) in omega arith))
+
+none-fewer : (m : Model.Station) (l : Events) → m .accepted ≤ after m l .accepted
+unfolding after
+none-fewer m [] = omega arith
+none-fewer m (e ∷ l) = let a = no-fewer m e in let b = none-fewer (asked m e .station) l in omega arith
+
+some-taken : (m : Model.Station) (l : Events) → anyTaken (outcomes m l) ≡ true → m .accepted < after m l .accepted
+unfolding after outcomes anyTaken
+some-taken m [] h = absurd (true≢false (sym h))
+some-taken m (e ∷ l) h =
+    by-test (taken (asked m e .answer .code))
+    (λ t. (let c = asked-sorts m e .counts t in let b = none-fewer (asked m e .station) l in omega arith))
+    (λ t.
+    (let c = ap (λ (z : Model.Station). z .accepted) (asked-sorts m e .same t) in
+    let rest = subst (λ (b : Bool). (b || anyTaken (outcomes (asked m e .station) l)) ≡ true) t h in
+    let b = some-taken (asked m e .station) l rest in
+    omega arith))
+
+-- ---- the form that is left: the one handed in where nothing was accepted
+
+record Stands (p : PlainStation) (l : Events) (q : PlainStation) : Type 0 where
+  state : meant q ≡ after (meant p) l
+  still : good q ≡ true
+  kept : anyTaken (outcomes (meant p) l) ≡ false → q ≡ p
+  neat : anyTaken (outcomes (meant p) l) ≡ true → Neat q
+
+module _ (p : PlainStation) (l : Events) (x q : PlainStation) (w : Means x (after (meant p) l)) where
+  counted : x .accepted ≡ after (meant p) l .accepted
+  counted = ap (λ (z : Model.Station). z .accepted) (w .state)
+
+  stands-new : q ≡ cond (eqb (x .accepted) (p .accepted)) p x → anyTaken (outcomes (meant p) l) ≡ true → Stands p l q
+  stands-new e t =
+      let a = some-taken (meant p) l t in
+      let b = counted in
+      let more : x .accepted ≡ p .accepted → ⊥ = λ z. omega arith in
+      let is : q ≡ x = e ∙ rw (ne-eqb (x .accepted) (p .accepted) more) in
+      record {
+        state = ap meant is ∙ w .state;
+        still = ap good is ∙ w .still;
+        kept = λ f. absurd (true≢false (sym t ∙ f));
+        neat = λ f. subst Neat (sym is) (w .neat);
+      }
+
+  stands-old : good p ≡ true → q ≡ cond (eqb (x .accepted) (p .accepted)) p x → anyTaken (outcomes (meant p) l) ≡ false → Stands p l q
+  stands-old g e t =
+      let same = none-taken (meant p) l t in
+      let as-many : x .accepted ≡ p .accepted = ap (λ (z : Model.Station). z .accepted) (w .state ∙ same) in
+      let is : q ≡ p = e ∙ rw (eq-eqb (x .accepted) (p .accepted) as-many) in
+      record {
+        state = ap meant is ∙ sym same;
+        still = ap good is ∙ g;
+        kept = λ f. is;
+        neat = λ f. absurd (true≢false (sym f ∙ t));
+      }
+
+  stands : good p ≡ true → q ≡ cond (eqb (x .accepted) (p .accepted)) p x → Stands p l q
+  stands g e = by-test (anyTaken (outcomes (meant p) l)) (stands-new e) (stands-old g e)
+
 -- ---- a batch on a form
 
-pub runs-good : (p : PlainStation) (b : PlainBatch) (s : Station) (r : Ran) → b .len ≤ 64 → good p ≡ true → s ≡ stationOf p → Along s b (b .len) r → Runs p b (r .code) (r .station) (r .batch)
-runs-good p b s r k i f h =
-    let a = subst (λ (z : Station). Along z b (b .len) r) f h in
+pub runs-good : (p : PlainStation) (b : PlainBatch) (s : Station) (r a : Ran) → b .len ≤ 64 → good p ≡ true → s ≡ stationOf p
+    → Along s b (b .len) r → Kept p r a → Runs p b (a .code) (a .station) (a .batch)
+runs-good p b s r a k i f h e =
+    let d = subst (λ (z : Station). Along z b (b .len) r) f h in
     let yes : runnable p b ≡ true = rw (le-leb (b .len) 64 k, i) in
+    let w = stands p (map ofEvent (take (b .len) (b .events))) (r .station) (a .station) (d .means) i (e .station) in
     record {
       unsound = λ z. absurd (true≢false (sym yes ∙ z));
-      done = λ z. a .done;
-      told = λ z. a .told;
-      few = λ z. a .few;
-      state = λ z. a .means .state;
-      still = λ z. a .means .still;
-      neat = λ z. a .means .neat;
+      done = λ z. e .code ∙ d .done;
+      told = λ z. e .batch ∙ d .told;
+      few = λ z. d .few;
+      state = λ z. w .state;
+      still = λ z. w .still;
+      kept = λ z. w .kept;
+      neat = λ z. w .neat;
     }
 
 pub runs-not : (p : PlainStation) (b : PlainBatch) → runnable p b ≡ false → Runs p b 129 p b
@@ -164,6 +251,7 @@ runs-not p b i =
       few = λ z. absurd (never z);
       state = λ z. absurd (never z);
       still = λ z. absurd (never z);
+      kept = λ z. absurd (never z);
       neat = λ z. absurd (never z);
     }
 

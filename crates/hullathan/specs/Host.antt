@@ -1,6 +1,6 @@
 -- What a host hands in and finds: a station in plain form, events by number, answers in plain numbers (document 01, "Station"). Definitions only.
 use mathlib.Core.Path.{_≡_}
-use mathlib.Core.Bool.{Bool, true, false, cond, not, _&&_}
+use mathlib.Core.Bool.{Bool, true, false, cond, not, _&&_, _||_}
 use mathlib.Core.List.{List, [], _∷_, map}
 use mathlib.Core.Option.{Option, none, some}
 use Prim.Native.Nat.{ℕ, zero, suc, _+_, _≤_}
@@ -11,6 +11,7 @@ use Rattle.ranges.specs.Settings.{standard}
 use Rattle.ranges.specs.Limits.{nought}
 use Rattle.tracker.specs.Steps.{ditEstimate}
 use Rattle.bank_model.specs.Model.{Hyp}
+use Rattle.bank.specs.Parts.{mostLeft}
 use Rattle.station_model.specs.declared.Code.{Code}
 use Rattle.station_model.specs.declared.Code.the-variants.{Refused}
 use Rattle.station_model.specs.declared.Event.{Event}
@@ -19,9 +20,10 @@ use Rattle.station_model.specs.Station.{number, taken, ready, full, step}
 use Rattle.station_model.specs.Station as Model
 use Rattle.station.specs.View.{view}
 use Rattle.station.specs.Sound.{sound}
-use Rattle.plain_tracker.specs.Plain.{asNumber}
+use Rattle.plain_tracker.specs.Plain.{asNumber, zeros}
+use Rattle.plain_sender.specs.Plain.{has, orNought}
 use Rattle.plain.specs.declared.PlainDeparture.{PlainDeparture}
-use Rattle.plain.specs.Plain.{plainDeparture, noDeparture}
+use Rattle.plain.specs.Plain.{plainDeparture, noDeparture, plainRecord, blankRecord}
 use Rattle.plain_station.specs.declared.PlainStation.{PlainStation}
 use Rattle.plain_station.specs.Plain.{plainStation, stationOf, isStation}
 use Rattle.hullathan.specs.declared.PlainEvent.{PlainEvent}
@@ -91,27 +93,39 @@ asked m (some e) = cond (choiceSound m e) (step standard m e) (refusedBy 1 m)
 abbrev pub codeNumber : Code → ℕ
 codeNumber c = cond (taken c) (number c) (128 + number c)
 
--- a list in k places, none in those that are left
-unfoldable pub padded : ℕ → List PlainDeparture → List PlainDeparture
-padded zero l = []
-padded (suc k) [] = noDeparture ∷ padded k []
-padded (suc k) (d ∷ l) = d ∷ padded k l
+-- a list in k places, z in those that are left
+unfoldable pub padded : {A : Type 0} → A → ℕ → List A → List A
+padded z zero l = []
+padded z (suc k) [] = z ∷ padded z k []
+padded z (suc k) (x ∷ l) = x ∷ padded z k l
 
 -- the code, what the journal shows of the station after the call, and who left
 abbrev pub rowOf : Model.Outcome → PlainAnswer
 rowOf o = record {
   code = codeNumber (o .answer .code);
+  «pad_code» = zeros 3;
   «dit_ms» = o .station .primary .pair .lo;
   «dah_ms» = o .station .primary .pair .hi;
+  «pad_dah_ms» = zeros 4;
   serial = o .station .serial;
   challengers = length (o .station .bank .challengers);
-  left = padded 9 (map plainDeparture (o .answer .departures));
+  left = padded noDeparture mostLeft (map plainDeparture (o .answer .departures));
   «left_len» = length (o .answer .departures);
 }
 
 -- the answer where the memory holds no sound station
 abbrev pub barred : PlainAnswer
-barred = record { code = 129; «dit_ms» = nought; «dah_ms» = nought; serial = 0; challengers = 0; left = padded 9 []; «left_len» = 0 }
+barred = record {
+  code = 129;
+  «pad_code» = zeros 3;
+  «dit_ms» = nought;
+  «dah_ms» = nought;
+  «pad_dah_ms» = zeros 4;
+  serial = 0;
+  challengers = 0;
+  left = padded noDeparture mostLeft [];
+  «left_len» = 0;
+}
 
 -- ---- a flag that a host hands in: 0 no, anything else yes
 
@@ -122,9 +136,9 @@ switches n = not (eqb n 0)
 pub record Answers (e : Option Event) (p : PlainStation) (r : PlainAnswer) (q : PlainStation) : Type 0 where
   -- no sound station: refused by 1, and every byte as it was
   pub unsound : good p ≡ false → (r ≡ barred) × (q ≡ p)
-  -- else the answer is the defined one, and at most nine left
+  -- else the answer is the defined one, and no more left than there is room for
   pub told : good p ≡ true → r ≡ rowOf (asked (meant p) e)
-  pub few : good p ≡ true → length (asked (meant p) e .answer .departures) ≤ 9
+  pub few : good p ≡ true → length (asked (meant p) e .answer .departures) ≤ mostLeft
   -- a refused call leaves every byte as it was
   pub kept : good p ≡ true → taken (asked (meant p) e .answer .code) ≡ false → q ≡ p
   -- an accepted one leaves the defined station, sound, and what is no part of it empty
@@ -161,9 +175,15 @@ runnable p b = leb (b .len) 64 && good p
 
 unfoldable pub Few : List Model.Outcome → Type 0
 Few [] = Unit {0}
-Few (o ∷ l) = (length (o .answer .departures) ≤ 9) × Few l
+Few (o ∷ l) = (length (o .answer .departures) ≤ mostLeft) × Few l
 
--- the events of b on the form p: the code, the form that is left, and the batch. The form is written anew, also where every event was refused: what is no part of a state is empty then
+-- whether an event of them was accepted
+unfoldable pub anyTaken : List Model.Outcome → Bool
+anyTaken [] = false
+anyTaken (o ∷ l) = taken (o .answer .code) || anyTaken l
+
+-- the events of b on the form p: the code, the form that is left, and the batch. Where no event was accepted every byte
+-- of the form stays; else what is no part of a state is empty
 pub record Runs (p : PlainStation) (b : PlainBatch) (code : ℕ) (q : PlainStation) (c : PlainBatch) : Type 0 where
   pub unsound : runnable p b ≡ false → (code ≡ 129) × (q ≡ p) × (c ≡ b)
   pub done : runnable p b ≡ true → code ≡ 0
@@ -171,7 +191,8 @@ pub record Runs (p : PlainStation) (b : PlainBatch) (code : ℕ) (q : PlainStati
   pub few : runnable p b ≡ true → Few (outcomes (meant p) (eventsIn b))
   pub state : runnable p b ≡ true → meant q ≡ after (meant p) (eventsIn b)
   pub still : runnable p b ≡ true → good q ≡ true
-  pub neat : runnable p b ≡ true → Neat q
+  pub kept : runnable p b ≡ true → anyTaken (outcomes (meant p) (eventsIn b)) ≡ false → q ≡ p
+  pub neat : runnable p b ≡ true → anyTaken (outcomes (meant p) (eventsIn b)) ≡ true → Neat q
 
 -- ---- what a display and a log need
 
@@ -181,27 +202,14 @@ rivalOf h = record { serial = h .serial; «dit_ms» = h .tracker .pair .lo; «da
 abbrev pub noRival : PlainRival
 noRival = record { serial = 0; «dit_ms» = nought; «dah_ms» = nought; score = nought; «gap_score» = nought }
 
--- the rivals in eight places, none in those that are left
-unfoldable pub shown : ℕ → List Hyp → List PlainRival
-shown zero l = []
-shown (suc k) [] = noRival ∷ shown k []
-shown (suc k) (h ∷ l) = rivalOf h ∷ shown k l
-
--- a number that may be absent: then it is 0
-abbrev pub has : Option Float → ℕ
-has none = 0
-has (some x) = 1
-
-abbrev pub orNought : Option Float → Float
-orNought none = nought
-orNought (some x) = x
-
+-- the challengers in their order, and the switch log, the oldest first
 abbrev pub readingOf : Model.Station → PlainReading
 readingOf m = record {
   code = 0;
   ready = asNumber (ready (m .primary));
   «has_wpm» = has (m .primary .wpm);
   switching = asNumber (m .bank .switching);
+  «pad_switching» = zeros 4;
   width = m .bank .width;
   «dit_ms» = m .primary .pair .lo;
   «dah_ms» = m .primary .pair .hi;
@@ -220,7 +228,9 @@ readingOf m = record {
   replaced = m .counts .replaced;
   cleared = m .counts .cleared;
   challengers = length (m .bank .challengers);
-  rivals = shown 8 (m .bank .challengers);
+  rivals = padded noRival 8 (map rivalOf (m .bank .challengers));
+  «log_len» = length (m .bank .log);
+  log = padded blankRecord 16 (map plainRecord (m .bank .log));
 }
 
 -- the reading where the memory holds no sound station
@@ -230,6 +240,7 @@ noReading = record {
   ready = 0;
   «has_wpm» = 0;
   switching = 0;
+  «pad_switching» = zeros 4;
   width = 0;
   «dit_ms» = nought;
   «dah_ms» = nought;
@@ -248,7 +259,9 @@ noReading = record {
   replaced = 0;
   cleared = 0;
   challengers = 0;
-  rivals = shown 8 [];
+  rivals = padded noRival 8 [];
+  «log_len» = 0;
+  log = padded blankRecord 16 [];
 }
 
 abbrev pub reads : PlainStation → PlainReading

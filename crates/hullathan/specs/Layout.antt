@@ -2,6 +2,9 @@
 use mathlib.Core.List.{List, [], _∷_}
 use Prim.Native.Nat.{ℕ, zero, suc, _+_}
 use lib.Ieee.{Float, binary32, ofBits}
+use Rattle.sender.specs.declared.ClassStats.{ClassStats}
+use Rattle.sender.specs.declared.SenderTiming.{SenderTiming}
+use Rattle.plain_sender.specs.declared.SenderReading.{SenderReading}
 use Rattle.plain_tracker.specs.declared.PlainPair.{PlainPair}
 use Rattle.plain_tracker.specs.declared.PlainEntry.{PlainEntry}
 use Rattle.plain_tracker.specs.declared.PlainTracker.{PlainTracker}
@@ -25,6 +28,12 @@ unfoldable pub ending : {A : Type 0} → ℕ → A → A → List A
 ending zero x z = z ∷ []
 ending (suc n) x z = x ∷ ending n x z
 
+-- k bytes of a pad at a place, the last with 100 more
+unfoldable pub bytes : ℕ → ℕ → List ℕ
+bytes zero n = []
+bytes (suc zero) n = (100 + n) ∷ []
+bytes (suc (suc k)) n = n ∷ bytes (suc k) n
+
 abbrev pub pair : PlainPair
 pair = record {
   lo = float 1;
@@ -34,15 +43,17 @@ pair = record {
   ready = 5;
   confirmed = 6;
   «placeholder_is_lo» = 7;
-  «lo_n» = 8;
+  «pad_placeholder_is_lo» = bytes 5 8;
+  «lo_n» = 9;
 }
 
 abbrev pub entry : ℕ → PlainEntry
 entry m = record {
   «dur_ms» = float (1 + m);
   «assigned_dit» = 2 + m;
-  «pre_lo» = float (3 + m);
-  «pre_hi» = float (4 + m);
+  «pad_assigned_dit» = bytes 3 (3 + m);
+  «pre_lo» = float (4 + m);
+  «pre_hi» = float (5 + m);
 }
 
 abbrev pub tracker : PlainTracker
@@ -51,16 +62,21 @@ tracker = record {
   ring = ending 11 (entry 0) (entry 100);
   «ring_len» = 3;
   «has_wpm» = 4;
-  «wpm_ema» = float 5;
-  recent = ending 4 (float 6) (float 106);
-  «recent_len» = 7;
-  «has_egap» = 8;
-  «mu_egap_ms» = float 9;
-  «has_hint» = 10;
-  «ratio_hint» = float 11;
-  regime = 12;
-  «badlock_recovered» = 13;
-  «lo_uncorroborated» = 14;
+  «pad_has_wpm» = bytes 3 5;
+  «wpm_ema» = float 6;
+  recent = ending 4 (float 7) (float 107);
+  «pad_recent» = bytes 4 8;
+  «recent_len» = 9;
+  «has_egap» = 10;
+  «pad_has_egap» = bytes 3 11;
+  «mu_egap_ms» = float 12;
+  «has_hint» = 13;
+  «pad_has_hint» = bytes 3 14;
+  «ratio_hint» = float 15;
+  regime = 16;
+  «badlock_recovered» = 17;
+  «lo_uncorroborated» = 18;
+  «pad_lo_uncorroborated» = bytes 2 19;
 }
 
 abbrev pub hypothesis : ℕ → PlainHypothesis
@@ -71,11 +87,14 @@ hypothesis m = record {
   «lead_marks» = 4 + m;
   «age_marks» = 5 + m;
   origin = 6 + m;
-  «retain_marks» = 7 + m;
-  reported = 8 + m;
-  «ln_lo» = float (9 + m);
-  «ln_hi» = float (10 + m);
-  serial = 11 + m;
+  «pad_origin» = bytes 3 (7 + m);
+  «retain_marks» = 8 + m;
+  reported = 9 + m;
+  «pad_reported» = bytes 3 (10 + m);
+  «ln_lo» = float (11 + m);
+  «ln_hi» = float (12 + m);
+  «pad_ln_hi» = bytes 4 (13 + m);
+  serial = 14 + m;
 }
 
 abbrev pub record-at : ℕ → PlainRecord
@@ -84,55 +103,64 @@ record-at m = record {
   «from_dit_ms» = float (2 + m);
   «to_dit_ms» = float (3 + m);
   applied = 4 + m;
+  «pad_applied» = bytes 7 (5 + m);
 }
 
 abbrev pub bank : PlainBank
 bank = record {
   width = 1;
   switching = 2;
-  «primary_score» = float 3;
-  «primary_gap_score» = float 4;
+  «pad_switching» = bytes 3 3;
+  «primary_score» = float 4;
+  «primary_gap_score» = float 5;
+  «pad_primary_gap_score» = bytes 4 6;
   challengers = ending 7 (hypothesis 0) (hypothesis 100);
-  «challengers_len» = 6;
-  streak = ending 3 (float 7) (float 107);
-  «streak_len» = 8;
-  «streak_gaps» = ending 3 (float 9) (float 109);
-  «streak_gaps_len» = 10;
-  «has_side» = 11;
-  «streak_side» = 12;
-  «has_last_gap» = 13;
-  «last_gap» = float 14;
-  «marks_seen» = 15;
-  «gaps_seen» = 16;
-  «has_pending» = 17;
-  pending = 18;
+  «challengers_len» = 8;
+  streak = ending 3 (float 9) (float 109);
+  «streak_len» = 10;
+  «streak_gaps» = ending 3 (float 11) (float 111);
+  «streak_gaps_len» = 12;
+  «has_side» = 13;
+  «streak_side» = 14;
+  «has_last_gap» = 15;
+  «pad_has_last_gap» = bytes 1 16;
+  «last_gap» = float 17;
+  «marks_seen» = 18;
+  «gaps_seen» = 19;
+  «has_pending» = 20;
+  «pad_has_pending» = bytes 7 21;
+  pending = 22;
   log = ending 15 (record-at 0) (record-at 100);
-  «log_len» = 20;
-  started = 21;
+  «log_len» = 24;
+  started = 25;
 }
 
 abbrev pub departure : ℕ → PlainDeparture
 departure m = record {
   serial = 1 + m;
   cause = 2 + m;
+  «pad_cause» = bytes 7 (3 + m);
 }
 
 abbrev pub answer : ℕ → PlainAnswer
 answer m = record {
   code = 1 + m;
-  «dit_ms» = float (2 + m);
-  «dah_ms» = float (3 + m);
-  serial = 4 + m;
-  challengers = 5 + m;
-  left = ending 8 (departure 0) (departure 100);
-  «left_len» = 7 + m;
+  «pad_code» = bytes 3 (2 + m);
+  «dit_ms» = float (3 + m);
+  «dah_ms» = float (4 + m);
+  «pad_dah_ms» = bytes 4 (5 + m);
+  serial = 6 + m;
+  challengers = 7 + m;
+  left = ending 6 (departure 0) (departure 100);
+  «left_len» = 9 + m;
 }
 
 abbrev pub event : ℕ → PlainEvent
 event m = record {
   kind = 1 + m;
   live = 2 + m;
-  value = float (3 + m);
+  «pad_live» = bytes 2 (3 + m);
+  value = float (4 + m);
 }
 
 abbrev pub rival : ℕ → PlainRival
@@ -170,23 +198,47 @@ reading = record {
   ready = 2;
   «has_wpm» = 3;
   switching = 4;
-  width = 5;
-  «dit_ms» = float 6;
-  «dah_ms» = float 7;
-  «dit_estimate_ms» = float 8;
-  wpm = float 9;
-  score = float 10;
-  «gap_score» = float 11;
-  serial = 12;
-  accepted = 13;
-  marks = 14;
-  gaps = 15;
-  started = 16;
-  twins = 17;
-  outscored = 18;
-  aged = 19;
-  replaced = 20;
-  cleared = 21;
-  challengers = 22;
+  «pad_switching» = bytes 4 5;
+  width = 6;
+  «dit_ms» = float 7;
+  «dah_ms» = float 8;
+  «dit_estimate_ms» = float 9;
+  wpm = float 10;
+  score = float 11;
+  «gap_score» = float 12;
+  serial = 13;
+  accepted = 14;
+  marks = 15;
+  gaps = 16;
+  started = 17;
+  twins = 18;
+  outscored = 19;
+  aged = 20;
+  replaced = 21;
+  cleared = 22;
+  challengers = 23;
   rivals = ending 7 (rival 0) (rival 100);
+  «log_len» = 25;
+  log = ending 15 (record-at 0) (record-at 100);
+}
+
+abbrev pub stats : ClassStats
+stats = record { mean = record { 0 = float 1 }; var = float 2; n = 3 }
+
+abbrev pub sender : SenderTiming
+sender = record { dot = stats; dash = stats; «element_gap» = stats; «char_gap» = stats; «word_gap» = stats }
+
+abbrev pub sender-reading : SenderReading
+sender-reading = record {
+  code = 1;
+  «has_ratio» = 2;
+  «pad_has_ratio» = bytes 2 3;
+  «dit_ms» = float 4;
+  ratio = float 5;
+  «word_dits» = float 6;
+  dot = stats;
+  dash = stats;
+  «element_gap» = stats;
+  «char_gap» = stats;
+  «word_gap» = stats;
 }

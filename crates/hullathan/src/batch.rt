@@ -26,7 +26,7 @@ ghost use Prim.Native.Nat.{_≤_};
 ghost use Rattle.station.specs.Parts.{Solid, Steady};
 ghost use Rattle.plain_station.specs.Plain.{plainStation};
 ghost use Rattle.hullathan.specs.Host.{Runs, ofEvent};
-ghost use Rattle.hullathan.specs.Parts.{Along, Told, ofAsked};
+ghost use Rattle.hullathan.specs.Parts.{Along, Kept, Told, ofAsked};
 
 // A station after an event, and the answer.
 pub(crate) struct Step {
@@ -132,6 +132,17 @@ pub(crate) fn run_on(s: Station, b: PlainBatch, n: usize) -> Ran
     along_any(s, b, n)
 }
 
+// What was run; where no event was accepted, which the station counts, with the form p that was handed in.
+pub(crate) fn or_kept(p: PlainStation, r: Ran) -> Ran
+    ensures { λ a. ⌜ Kept p r a ⌝ }
+{
+    let mut a = r;
+    if a.station.accepted == p.accepted {
+        a.station = p;
+    }
+    a
+}
+
 // A batch: refused by 1 where there is no sound station, or the count is above its capacity.
 pub fn ran(p: PlainStation, b: PlainBatch) -> Ran
     ensures { λ r. ⌜ Runs p b (r .code) (r .station) (r .batch) ⌝ }
@@ -140,7 +151,7 @@ pub fn ran(p: PlainStation, b: PlainBatch) -> Ran
     if n <= 64 {
         let s = station_from(p);
         if is_good(p, s) {
-            return run_on(s, b, n);
+            return or_kept(p, run_on(s, b, n));
         }
     }
     Ran {

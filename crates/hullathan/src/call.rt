@@ -6,6 +6,7 @@ use crate::event::event_of;
 use crate::inner::is_good;
 use crate::inner::row;
 use crate::inner::turn;
+use bank_model::MOST_LEFT;
 use plain::to::no_departure;
 use plain_station::PlainStation;
 use plain_station::from::station_from;
@@ -16,6 +17,7 @@ use station_model::Code;
 ghost use mathlib.Core.Path.{_≡_};
 ghost use mathlib.Core.Bool.{cond};
 ghost use Prim.Native.Nat.{_≤_};
+ghost use Rattle.bank.specs.Parts.{mostLeft};
 ghost use Rattle.station_model.specs.Station.{number, taken};
 ghost use Rattle.station.specs.View.{outcome};
 ghost use Rattle.station.specs.Parts.{Solid};
@@ -28,11 +30,13 @@ pub(crate) fn no_answer() -> PlainAnswer
     ensures { λ r. ⌜ r ≡ barred ⌝ }
 {
     let z = no_departure();
-    let left = [z; 9];
+    let left = [z; MOST_LEFT];
     PlainAnswer {
         code: 129,
+        pad_code: [0; 3],
         dit_ms: 0.0,
         dah_ms: 0.0,
+        pad_dah_ms: [0; 4],
         serial: 0,
         challengers: 0,
         left,
@@ -68,7 +72,7 @@ pub(crate) fn left_at(p: PlainStation, o: Outcome) -> PlainStation
 
 // What a host finds after a call on the station whose form is p.
 pub(crate) fn found(p: PlainStation, o: Outcome) -> Called
-    requires { ⌜ (number (o .answer .code) ≤ 12) × (o .answer .«left_len» ≤ 9) ⌝ }
+    requires { ⌜ (number (o .answer .code) ≤ 12) × (o .answer .«left_len» ≤ mostLeft) ⌝ }
     requires { ⌜ Solid (o .station) ⌝ }
     ensures { λ r. ⌜ (r .answer ≡ rowOf (outcome o)) × (r .station ≡ cond (taken (o .answer .code)) (plainStation (o .station)) p) ⌝ }
 {

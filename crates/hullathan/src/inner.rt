@@ -16,6 +16,7 @@ ghost use mathlib.Core.Path.{_≡_};
 ghost use mathlib.Core.Bool.{true, cond, _&&_};
 ghost use mathlib.Core.Option.{none};
 ghost use Prim.Native.Nat.{_≤_};
+ghost use Rattle.bank.specs.Parts.{mostLeft};
 ghost use Rattle.station_model.specs.Station.{full, number};
 ghost use Rattle.station.specs.View.{outcome, view};
 ghost use Rattle.station.specs.Parts.{Solid};
@@ -55,7 +56,7 @@ pub fn turn(s: Station, a: Asked) -> Outcome
 
 // The answer as a host reads it, of a station with this dit, dah and serial and so many challengers.
 pub(crate) fn row_of(a: Answer, lo: f32, hi: f32, serial: u64, challengers: usize) -> PlainAnswer
-    requires { ⌜ (number (a .code) ≤ 12) × (a .«left_len» ≤ 9) ⌝ }
+    requires { ⌜ (number (a .code) ≤ 12) × (a .«left_len» ≤ mostLeft) ⌝ }
     ensures { λ r. ⌜ Row a lo hi serial challengers r ⌝ }
 {
     let why = a.code;
@@ -63,8 +64,10 @@ pub(crate) fn row_of(a: Answer, lo: f32, hi: f32, serial: u64, challengers: usiz
     let left = plain_departures(l, a.left_len);
     PlainAnswer {
         code: code_number(why),
+        pad_code: [0; 3],
         dit_ms: lo,
         dah_ms: hi,
+        pad_dah_ms: [0; 4],
         serial,
         challengers,
         left,
@@ -74,7 +77,7 @@ pub(crate) fn row_of(a: Answer, lo: f32, hi: f32, serial: u64, challengers: usiz
 
 // The answer as a host reads it, of a call that left the station s.
 pub(crate) fn row_after(a: Answer, s: Station) -> PlainAnswer
-    requires { ⌜ (number (a .code) ≤ 12) × (a .«left_len» ≤ 9) ⌝ }
+    requires { ⌜ (number (a .code) ≤ 12) × (a .«left_len» ≤ mostLeft) ⌝ }
     ensures { λ r. ⌜ Row a (s .primary .pair .lo) (s .primary .pair .hi) (s .serial) (s .bank .«challengers_len») r ⌝ }
 {
     row_of(
@@ -88,7 +91,7 @@ pub(crate) fn row_after(a: Answer, s: Station) -> PlainAnswer
 
 // The answer of an outcome.
 pub fn row(o: Outcome) -> PlainAnswer
-    requires { ⌜ (number (o .answer .code) ≤ 12) × (o .answer .«left_len» ≤ 9) ⌝ }
+    requires { ⌜ (number (o .answer .code) ≤ 12) × (o .answer .«left_len» ≤ mostLeft) ⌝ }
     requires { ⌜ Solid (o .station) ⌝ }
     ensures { λ r. ⌜ r ≡ rowOf (outcome o) ⌝ }
 {

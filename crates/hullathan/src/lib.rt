@@ -1,8 +1,11 @@
 // The library for receivers: a station held in the host's own memory, in C or Rust. No function asks anything of its caller: whatever bytes stand
 // in that memory, a call does its work or refuses by document 01's number.
+use bank_model::MOST_LEFT;
 use plain::PlainDeparture;
+use plain::PlainRecord;
 use plain_station::PlainStation;
 
+pub mod banks;
 pub mod batch;
 pub mod call;
 pub mod event;
@@ -10,13 +13,16 @@ pub mod hosts;
 pub mod inner;
 pub mod layout;
 pub mod read;
+pub mod senders;
 pub mod start;
+pub mod version;
 
 // An event by its kind: 0 mark, 1 gap, 2 finish, 3 seed, 4 hint, 5 clear, 6 switch; whether it is live (0: no), of a mark only; and its number.
 #[repr(C)]
 pub struct PlainEvent {
     pub kind: u8,
     pub live: u8,
+    pub pad_live: [u8; 2],
     pub value: f32,
 }
 
@@ -25,11 +31,13 @@ pub struct PlainEvent {
 #[repr(C)]
 pub struct PlainAnswer {
     pub code: u8,
+    pub pad_code: [u8; 3],
     pub dit_ms: f32,
     pub dah_ms: f32,
+    pub pad_dah_ms: [u8; 4],
     pub serial: u64,
     pub challengers: usize,
-    pub left: [PlainDeparture; 9],
+    pub left: [PlainDeparture; MOST_LEFT],
     pub left_len: usize,
 }
 
@@ -51,13 +59,15 @@ pub struct PlainRival {
     pub gap_score: f32,
 }
 
-// What a display and a log need of a station. `marks` and `gaps` are those that the bank has counted, `accepted` the calls.
+// What a display and a log need of a station. `marks` and `gaps` are those that the bank has counted, `accepted` the calls; `log` has the
+// switches, the oldest first.
 #[repr(C)]
 pub struct PlainReading {
     pub code: u8,
     pub ready: u8,
     pub has_wpm: u8,
     pub switching: u8,
+    pub pad_switching: [u8; 4],
     pub width: usize,
     pub dit_ms: f32,
     pub dah_ms: f32,
@@ -77,6 +87,8 @@ pub struct PlainReading {
     pub cleared: u64,
     pub challengers: usize,
     pub rivals: [PlainRival; 8],
+    pub log_len: usize,
+    pub log: [PlainRecord; 16],
 }
 
 // A start: its code, and the station.

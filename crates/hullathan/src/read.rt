@@ -2,6 +2,8 @@
 use crate::PlainReading;
 use crate::PlainRival;
 use crate::inner::is_good;
+use plain::to::blank_record;
+use plain::to::plain_log;
 use plain_station::PlainStation;
 use plain_station::from::station_from;
 use plain_tracker::to::number_of;
@@ -10,12 +12,13 @@ use station::Station;
 use tracker::inner::speed::dit_estimate;
 ghost use mathlib.Core.Path.{_≡_};
 ghost use mathlib.Core.Bool.{cond};
+ghost use mathlib.Core.List.{map};
 ghost use lib.Ieee.{Float};
 ghost use Rattle.ranges.specs.Limits.{nought};
 ghost use Rattle.rival.specs.View.{viewHyp};
 ghost use Rattle.station.specs.View.{view};
 ghost use Rattle.station.specs.Parts.{Solid};
-ghost use Rattle.hullathan.specs.Host.{noReading, noRival, reads, readingOf, rivalOf, shown};
+ghost use Rattle.hullathan.specs.Host.{noReading, noRival, padded, reads, readingOf, rivalOf};
 
 // One challenger.
 pub(crate) fn rival_of(h: TimingHypothesis) -> PlainRival
@@ -46,7 +49,7 @@ pub(crate) fn no_rival() -> PlainRival
 // The challengers.
 pub(crate) fn rivals(s: Station) -> [PlainRival; 8]
     requires { ⌜ Solid s ⌝ }
-    ensures { λ r. ⌜ r ≡ shown 8 (view s .bank .challengers) ⌝ }
+    ensures { λ r. ⌜ r ≡ padded noRival 8 (map rivalOf (view s .bank .challengers)) ⌝ }
 {
     let b = s.bank;
     let n = b.challengers_len;
@@ -76,12 +79,15 @@ pub(crate) fn read_of(s: Station) -> PlainReading
 {
     let p = s.primary;
     let c = s.counts;
+    let b = s.bank;
     let shown = rivals(s);
+    let log = plain_log(b);
     PlainReading {
         code: 0,
         ready: number_of(p.pair.ready),
         has_wpm: number_of(p.has_wpm),
         switching: number_of(s.bank.switching),
+        pad_switching: [0; 4],
         width: s.bank.width,
         dit_ms: p.pair.lo,
         dah_ms: p.pair.hi,
@@ -101,6 +107,8 @@ pub(crate) fn read_of(s: Station) -> PlainReading
         cleared: c.cleared,
         challengers: s.bank.challengers_len,
         rivals: shown,
+        log_len: s.bank.log_len,
+        log,
     }
 }
 
@@ -110,11 +118,14 @@ pub(crate) fn no_reading() -> PlainReading
 {
     let z = no_rival();
     let rivals = [z; 8];
+    let n = blank_record();
+    let log = [n; 16];
     PlainReading {
         code: 129,
         ready: 0,
         has_wpm: 0,
         switching: 0,
+        pad_switching: [0; 4],
         width: 0,
         dit_ms: 0.0,
         dah_ms: 0.0,
@@ -134,6 +145,8 @@ pub(crate) fn no_reading() -> PlainReading
         cleared: 0,
         challengers: 0,
         rivals,
+        log_len: 0,
+        log,
     }
 }
 

@@ -23,7 +23,7 @@ use Rattle.bank.specs.declared.TimingBank.{TimingBank}
 use Rattle.bank.specs.Parts.{All, GapIn, Sturdy}
 use Rattle.bank.specs.Sound.{gapSound, sound}
 use Rattle.bank.specs.View.{given, viewAll, view}
-use Rattle.plain_tracker.specs.Plain.{asFlag, asNumber, isFlag, carried, firstOf, orNought}
+use Rattle.plain_tracker.specs.Plain.{asFlag, asNumber, isFlag, carried, firstOf, zeros, orNought}
 use Rattle.plain_tracker.proofs.Back.{flag-back, flag-named, trimmedTracker, tracker-back, tracker-plain, tracker-view, tracker-sound, tracker-named, emptied}
 use Rattle.plain_tracker.proofs.Carrying.{carried-back, carried-by, carried-long, carried-same, take-carried, take-kept, map-by, all-by}
 use Rattle.plain.specs.declared.PlainBank.{PlainBank}
@@ -81,10 +81,13 @@ hyp-plain h = λ i. record {
   «lead_marks» = h .«lead_marks»;
   «age_marks» = h .«age_marks»;
   origin = originCode (h .origin);
+  «pad_origin» = zeros 3;
   «retain_marks» = retained (h .origin);
   reported = asNumber (h .reported);
+  «pad_reported» = zeros 3;
   «ln_lo» = h .«ln_lo»;
   «ln_hi» = h .«ln_hi»;
+  «pad_ln_hi» = zeros 4;
   serial = h .serial;
 }
 

@@ -14,7 +14,7 @@ use Rattle.bank_model.specs.declared.Departure.{Departure}
 use Rattle.bank_model.specs.declared.SwitchRecord.{SwitchRecord}
 use Rattle.rival.specs.declared.TimingHypothesis.{TimingHypothesis}
 use Rattle.bank.specs.declared.TimingBank.{TimingBank}
-use Rattle.plain_tracker.specs.Plain.{asFlag, asNumber, isFlag, carried, firstOf, orNought, plainTracker, trackerOf, isTracker}
+use Rattle.plain_tracker.specs.Plain.{asFlag, asNumber, isFlag, carried, firstOf, zeros, orNought, plainTracker, trackerOf, isTracker}
 use Rattle.plain.specs.declared.PlainRecord.{PlainRecord}
 use Rattle.plain.specs.declared.PlainHypothesis.{PlainHypothesis}
 use Rattle.plain.specs.declared.PlainBank.{PlainBank}
@@ -54,10 +54,13 @@ plainHyp h = record {
   «lead_marks» = h .«lead_marks»;
   «age_marks» = h .«age_marks»;
   origin = originCode (h .origin);
+  «pad_origin» = zeros 3;
   «retain_marks» = retained (h .origin);
   reported = asNumber (h .reported);
+  «pad_reported» = zeros 3;
   «ln_lo» = h .«ln_lo»;
   «ln_hi» = h .«ln_hi»;
+  «pad_ln_hi» = zeros 4;
   serial = h .serial;
 }
 
@@ -100,7 +103,13 @@ blankHyp = plainHyp noHyp
 -- ---- a switch record
 
 abbrev pub plainRecord : SwitchRecord → PlainRecord
-plainRecord s = record { «mark_index» = s .«mark_index»; «from_dit_ms» = s .«from_dit_ms»; «to_dit_ms» = s .«to_dit_ms»; applied = asNumber (s .applied) }
+plainRecord s = record {
+  «mark_index» = s .«mark_index»;
+  «from_dit_ms» = s .«from_dit_ms»;
+  «to_dit_ms» = s .«to_dit_ms»;
+  applied = asNumber (s .applied);
+  «pad_applied» = zeros 7;
+}
 
 abbrev pub recordOf : PlainRecord → SwitchRecord
 recordOf p = record { «mark_index» = p .«mark_index»; «from_dit_ms» = p .«from_dit_ms»; «to_dit_ms» = p .«to_dit_ms»; applied = asFlag (p .applied) }
@@ -124,8 +133,10 @@ abbrev pub plainBank : TimingBank → PlainBank
 plainBank b = record {
   width = b .width;
   switching = asNumber (b .switching);
+  «pad_switching» = zeros 3;
   «primary_score» = b .«primary_score»;
   «primary_gap_score» = b .«primary_gap_score»;
+  «pad_primary_gap_score» = zeros 4;
   challengers = carried plainHyp blankHyp (b .«challengers_len») (b .challengers);
   «challengers_len» = b .«challengers_len»;
   streak = firstOf (b .«streak_len») (b .streak);
@@ -135,10 +146,12 @@ plainBank b = record {
   «has_side» = asNumber (b .«has_side»);
   «streak_side» = orZero (b .«has_side») (asNumber (b .«streak_side»));
   «has_last_gap» = asNumber (b .«has_last_gap»);
+  «pad_has_last_gap» = zeros 1;
   «last_gap» = orNought (b .«has_last_gap») (b .«last_gap»);
   «marks_seen» = b .«marks_seen»;
   «gaps_seen» = b .«gaps_seen»;
   «has_pending» = asNumber (b .«has_pending»);
+  «pad_has_pending» = zeros 7;
   pending = orZero (b .«has_pending») (b .pending);
   log = carried plainRecord blankRecord (b .«log_len») (b .log);
   «log_len» = b .«log_len»;
@@ -191,7 +204,7 @@ isBank p = areFlags p && (isCrew p && isLog p)
 -- ---- those that left
 
 abbrev pub plainDeparture : Departure → PlainDeparture
-plainDeparture d = record { serial = d .serial; cause = causeCode (d .cause) }
+plainDeparture d = record { serial = d .serial; cause = causeCode (d .cause); «pad_cause» = zeros 7 }
 
 abbrev pub noDeparture : PlainDeparture
-noDeparture = record { serial = 0; cause = 0 }
+noDeparture = record { serial = 0; cause = 0; «pad_cause» = zeros 7 }

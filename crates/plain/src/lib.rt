@@ -16,10 +16,13 @@ pub struct PlainHypothesis {
     pub lead_marks: u32,
     pub age_marks: u32,
     pub origin: u8,
+    pub pad_origin: [u8; 3],
     pub retain_marks: u32,
     pub reported: u8,
+    pub pad_reported: [u8; 3],
     pub ln_lo: f32,
     pub ln_hi: f32,
+    pub pad_ln_hi: [u8; 4],
     pub serial: u64,
 }
 
@@ -30,6 +33,7 @@ pub struct PlainRecord {
     pub from_dit_ms: f32,
     pub to_dit_ms: f32,
     pub applied: u8,
+    pub pad_applied: [u8; 7],
 }
 
 // A bank: the fields of `TimingBank`.
@@ -37,8 +41,10 @@ pub struct PlainRecord {
 pub struct PlainBank {
     pub width: usize,
     pub switching: u8,
+    pub pad_switching: [u8; 3],
     pub primary_score: f32,
     pub primary_gap_score: f32,
+    pub pad_primary_gap_score: [u8; 4],
     pub challengers: [PlainHypothesis; 8],
     pub challengers_len: usize,
     pub streak: [f32; 4],
@@ -48,10 +54,12 @@ pub struct PlainBank {
     pub has_side: u8,
     pub streak_side: u8,
     pub has_last_gap: u8,
+    pub pad_has_last_gap: [u8; 1],
     pub last_gap: f32,
     pub marks_seen: u64,
     pub gaps_seen: u64,
     pub has_pending: u8,
+    pub pad_has_pending: [u8; 7],
     pub pending: usize,
     pub log: [PlainRecord; 16],
     pub log_len: usize,
@@ -63,6 +71,7 @@ pub struct PlainBank {
 pub struct PlainDeparture {
     pub serial: u64,
     pub cause: u8,
+    pub pad_cause: [u8; 7],
 }
 
 // The bank of a plain form, where it is one.

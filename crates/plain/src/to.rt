@@ -56,10 +56,13 @@ pub fn plain_hypothesis(h: TimingHypothesis) -> PlainHypothesis
         lead_marks: h.lead_marks,
         age_marks: h.age_marks,
         origin: origin_code(o),
+        pad_origin: [0; 3],
         retain_marks: retain_marks(o),
         reported: number_of(h.reported),
+        pad_reported: [0; 3],
         ln_lo: h.ln_lo,
         ln_hi: h.ln_hi,
+        pad_ln_hi: [0; 4],
         serial: h.serial,
     }
 }
@@ -76,10 +79,13 @@ pub fn blank_hypothesis() -> PlainHypothesis
         lead_marks: 0,
         age_marks: 0,
         origin: 0,
+        pad_origin: [0; 3],
         retain_marks: 0,
         reported: 0,
+        pad_reported: [0; 3],
         ln_lo: 0.0,
         ln_hi: 0.0,
+        pad_ln_hi: [0; 4],
         serial: 0,
     }
 }
@@ -110,18 +116,19 @@ pub fn plain_record(s: SwitchRecord) -> PlainRecord
         from_dit_ms: s.from_dit_ms,
         to_dit_ms: s.to_dit_ms,
         applied: number_of(s.applied),
+        pad_applied: [0; 7],
     }
 }
 
 // A place that holds no switch record.
-pub(crate) fn blank_record() -> PlainRecord
+pub fn blank_record() -> PlainRecord
     ensures { λ r. ⌜ r ≡ blankRecord ⌝ }
 {
     plain_record(no_record())
 }
 
 // The log.
-pub(crate) fn plain_log(b: TimingBank) -> [PlainRecord; 16]
+pub fn plain_log(b: TimingBank) -> [PlainRecord; 16]
     ensures { λ r. ⌜ r ≡ carried plainRecord blankRecord (b .«log_len») (b .log) ⌝ }
 {
     let n = capped(b.log_len, 16);
@@ -178,8 +185,10 @@ pub fn plain_bank(b: TimingBank) -> PlainBank
     PlainBank {
         width: b.width,
         switching: number_of(b.switching),
+        pad_switching: [0; 3],
         primary_score: b.primary_score,
         primary_gap_score: b.primary_gap_score,
+        pad_primary_gap_score: [0; 4],
         challengers,
         challengers_len: b.challengers_len,
         streak,
@@ -189,10 +198,12 @@ pub fn plain_bank(b: TimingBank) -> PlainBank
         has_side: number_of(b.has_side),
         streak_side: side_number(b.has_side, b.streak_side),
         has_last_gap: number_of(b.has_last_gap),
+        pad_has_last_gap: [0; 1],
         last_gap: or_nought(b.has_last_gap, b.last_gap),
         marks_seen: b.marks_seen,
         gaps_seen: b.gaps_seen,
         has_pending: number_of(b.has_pending),
+        pad_has_pending: [0; 7],
         pending: or_zero(b.has_pending, b.pending),
         log,
         log_len: b.log_len,
@@ -221,6 +232,7 @@ pub fn plain_departure(d: Departure) -> PlainDeparture
     PlainDeparture {
         serial: d.serial,
         cause: cause_code(c),
+        pad_cause: [0; 7],
     }
 }
 
@@ -231,6 +243,7 @@ pub fn no_departure() -> PlainDeparture
     PlainDeparture {
         serial: 0,
         cause: 0,
+        pad_cause: [0; 7],
     }
 }
 

@@ -13,7 +13,7 @@ use Rattle.marks.proofs.Bounds.{both}
 use Rattle.plain_tracker.specs.declared.PlainPair.{PlainPair}
 use Rattle.plain_tracker.specs.declared.PlainEntry.{PlainEntry}
 use Rattle.plain_tracker.specs.declared.PlainTracker.{PlainTracker}
-use Rattle.plain_tracker.specs.Plain.{asFlag, asNumber, isFlag, carried, firstOf, orNought, plainPair, pairOf, isPair, plainEntry, entryOf, blankEntry, isEntry, isRing, plainTracker, trackerOf, isTracker}
+use Rattle.plain_tracker.specs.Plain.{asFlag, asNumber, isFlag, carried, firstOf, zeros, orNought, plainPair, pairOf, isPair, plainEntry, entryOf, blankEntry, isEntry, isRing, plainTracker, trackerOf, isTracker}
 use Rattle.plain_tracker.specs.Plain as Trackers
 use Rattle.plain.specs.declared.PlainHypothesis.{PlainHypothesis}
 use Rattle.plain.specs.declared.PlainRecord.{PlainRecord}
@@ -21,7 +21,7 @@ use Rattle.plain.specs.declared.PlainBank.{PlainBank}
 use Rattle.plain.specs.Plain.{originCode, retained, originOf, orZero, plainHyp, hypOf, noHyp, blankHyp, isHyp, plainRecord, recordOf, noRecord, blankRecord, isRecord, plainBank, bankOf, isSide, areFlags, isCrew, isLog, isBank}
 use Rattle.plain_station.specs.declared.PlainStation.{PlainStation}
 use Rattle.plain_station.specs.Plain.{plainStation, stationOf, isStation}
-use Rattle.plain_station.specs.Tidied.{tidiedPair, tidiedTracker, tidiedHyp, tidiedBank, tidied, Returned}
+use Rattle.plain_station.specs.Tidied.{tidiedPair, tidiedEntry, tidiedTracker, tidiedHyp, tidiedRecord, tidiedBank, tidied, Returned}
 
 -- ---- flags and origins
 
@@ -78,13 +78,20 @@ pair-again p t =
       ready = number-back (p .ready) (a .0) i;
       confirmed = number-back (p .confirmed) (b .0) i;
       «placeholder_is_lo» = number-back (p .«placeholder_is_lo») (b .1) i;
+      «pad_placeholder_is_lo» = zeros 5;
       «lo_n» = p .«lo_n»;
     }
 
-entry-again : (p : PlainEntry) → T (isEntry p) → plainEntry (entryOf p) ≡ p
-entry-again p t = λ i. record { «dur_ms» = p .«dur_ms»; «assigned_dit» = number-back (p .«assigned_dit») t i; «pre_lo» = p .«pre_lo»; «pre_hi» = p .«pre_hi» }
+entry-again : (p : PlainEntry) → T (isEntry p) → plainEntry (entryOf p) ≡ tidiedEntry p
+entry-again p t = λ i. record {
+  «dur_ms» = p .«dur_ms»;
+  «assigned_dit» = number-back (p .«assigned_dit») t i;
+  «pad_assigned_dit» = zeros 3;
+  «pre_lo» = p .«pre_lo»;
+  «pre_hi» = p .«pre_hi»;
+}
 
-ring-again : (n : ℕ) (l : List PlainEntry) → T (all isEntry (take n l)) → carried plainEntry blankEntry n (map entryOf l) ≡ carried (λ e. e) blankEntry n l
+ring-again : (n : ℕ) (l : List PlainEntry) → T (all isEntry (take n l)) → carried plainEntry blankEntry n (map entryOf l) ≡ carried tidiedEntry blankEntry n l
 unfolding carried all
 ring-again n [] t = refl
 ring-again zero (x ∷ l) t = ap (λ r. blankEntry ∷ r) (ring-again zero l tt)
@@ -104,16 +111,21 @@ tracker-again p t =
       ring = ring-again (p .«ring_len») (p .ring) (b .1) i;
       «ring_len» = p .«ring_len»;
       «has_wpm» = number-back (p .«has_wpm») (c .0) i;
+      «pad_has_wpm» = zeros 3;
       «wpm_ema» = orNought (asFlag (p .«has_wpm»)) (p .«wpm_ema»);
       recent = firstOf (p .«recent_len») (p .recent);
+      «pad_recent» = zeros 4;
       «recent_len» = p .«recent_len»;
       «has_egap» = number-back (p .«has_egap») (d .0) i;
+      «pad_has_egap» = zeros 3;
       «mu_egap_ms» = orNought (asFlag (p .«has_egap»)) (p .«mu_egap_ms»);
       «has_hint» = number-back (p .«has_hint») (e .0) i;
+      «pad_has_hint» = zeros 3;
       «ratio_hint» = orNought (asFlag (p .«has_hint»)) (p .«ratio_hint»);
       regime = p .regime;
       «badlock_recovered» = number-back (p .«badlock_recovered») (f .0) i;
       «lo_uncorroborated» = number-back (p .«lo_uncorroborated») (f .1) i;
+      «pad_lo_uncorroborated» = zeros 2;
     }
 
 -- ---- a challenger, a switch record, a bank
@@ -129,15 +141,24 @@ hyp-again p t =
       «lead_marks» = p .«lead_marks»;
       «age_marks» = p .«age_marks»;
       origin = code-back (p .origin) (p .«retain_marks») (a .0) i;
+      «pad_origin» = zeros 3;
       «retain_marks» = marks-back (p .origin) (p .«retain_marks») (a .0) i;
       reported = number-back (p .reported) (b .0) i;
+      «pad_reported» = zeros 3;
       «ln_lo» = p .«ln_lo»;
       «ln_hi» = p .«ln_hi»;
+      «pad_ln_hi» = zeros 4;
       serial = p .serial;
     }
 
-record-again : (p : PlainRecord) → T (isRecord p) → plainRecord (recordOf p) ≡ p
-record-again p t = λ i. record { «mark_index» = p .«mark_index»; «from_dit_ms» = p .«from_dit_ms»; «to_dit_ms» = p .«to_dit_ms»; applied = number-back (p .applied) t i }
+record-again : (p : PlainRecord) → T (isRecord p) → plainRecord (recordOf p) ≡ tidiedRecord p
+record-again p t = λ i. record {
+  «mark_index» = p .«mark_index»;
+  «from_dit_ms» = p .«from_dit_ms»;
+  «to_dit_ms» = p .«to_dit_ms»;
+  applied = number-back (p .applied) t i;
+  «pad_applied» = zeros 7;
+}
 
 pub bank-again : (p : PlainBank) → T (isBank p) → plainBank (bankOf p) ≡ tidiedBank p
 unfolding isCrew isLog
@@ -150,8 +171,10 @@ bank-again p t =
     λ i. record {
       width = p .width;
       switching = number-back (p .switching) (d .0) i;
+      «pad_switching» = zeros 3;
       «primary_score» = p .«primary_score»;
       «primary_gap_score» = p .«primary_gap_score»;
+      «pad_primary_gap_score» = zeros 4;
       challengers = again plainHyp hypOf blankHyp noHyp tidiedHyp isHyp hyp-again (p .«challengers_len») (p .challengers) (b .0) i;
       «challengers_len» = p .«challengers_len»;
       streak = firstOf (p .«streak_len») (p .streak);
@@ -161,12 +184,14 @@ bank-again p t =
       «has_side» = has-side-back (p .«has_side») (p .«streak_side») (d .1) i;
       «streak_side» = side-back (p .«has_side») (p .«streak_side») (d .1) i;
       «has_last_gap» = number-back (p .«has_last_gap») (e .0) i;
+      «pad_has_last_gap» = zeros 1;
       «last_gap» = orNought (asFlag (p .«has_last_gap»)) (p .«last_gap»);
       «marks_seen» = p .«marks_seen»;
       «gaps_seen» = p .«gaps_seen»;
       «has_pending» = number-back (p .«has_pending») (e .1) i;
+      «pad_has_pending» = zeros 7;
       pending = orZero (asFlag (p .«has_pending»)) (p .pending);
-      log = again plainRecord recordOf blankRecord noRecord (λ s. s) isRecord record-again (p .«log_len») (p .log) (b .1) i;
+      log = again plainRecord recordOf blankRecord noRecord tidiedRecord isRecord record-again (p .«log_len») (p .log) (b .1) i;
       «log_len» = p .«log_len»;
       started = p .started;
     }

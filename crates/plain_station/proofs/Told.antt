@@ -28,7 +28,7 @@ use Rattle.bank.specs.Parts.{All, widest}
 use Rattle.bank.specs.Sound as Banking
 use Rattle.bank.specs.View as Banked
 use Rattle.bank.specs.View.{given}
-use Rattle.plain_tracker.specs.Plain.{asNumber, carried, orNought, plainEntry, blankEntry, plainTracker}
+use Rattle.plain_tracker.specs.Plain.{asNumber, carried, zeros, orNought, plainEntry, blankEntry, plainTracker}
 use Rattle.plain.specs.Plain.{originCode, retained, orZero, plainHyp, blankHyp, plainRecord, blankRecord, plainBank}
 
 -- ---- a list that is cut at its count
@@ -129,21 +129,27 @@ module _ (t u : SpeedTracker) (a : Sized t) (b : Sized u) (s : T (Tracking.sound
           ready = asNumber (e i .pair .ready);
           confirmed = asNumber (e i .pair .confirmed);
           «placeholder_is_lo» = asNumber (e i .pair .placeholderIsLo);
+          «pad_placeholder_is_lo» = zeros 5;
           «lo_n» = e i .pair .loN;
         };
         ring = first-means plainEntry blankEntry (t .ring) (u .ring) (t .«ring_len») (u .«ring_len») (a2 ∙ sym b2) (omega arith) (omega arith) rings i;
         «ring_len» = counted (t .ring) (u .ring) (t .«ring_len») (u .«ring_len») (omega arith) (omega arith) rings i;
         «has_wpm» = asNumber (held-flag (t .«has_wpm») (u .«has_wpm») (t .«wpm_ema») (u .«wpm_ema») (ap (λ m. m .wpm) e) i);
+        «pad_has_wpm» = zeros 3;
         «wpm_ema» = held-number (t .«has_wpm») (u .«has_wpm») (t .«wpm_ema») (u .«wpm_ema») (ap (λ m. m .wpm) e) i;
         recent = first-means (λ x. x) nought (t .recent) (u .recent) (t .«recent_len») (u .«recent_len») (a3 ∙ sym b3) (omega arith) (omega arith) recents i;
+        «pad_recent» = zeros 4;
         «recent_len» = counted (t .recent) (u .recent) (t .«recent_len») (u .«recent_len») (omega arith) (omega arith) recents i;
         «has_egap» = asNumber (held-flag (t .«has_egap») (u .«has_egap») (t .«mu_egap_ms») (u .«mu_egap_ms») (ap (λ m. m .egap) e) i);
+        «pad_has_egap» = zeros 3;
         «mu_egap_ms» = held-number (t .«has_egap») (u .«has_egap») (t .«mu_egap_ms») (u .«mu_egap_ms») (ap (λ m. m .egap) e) i;
         «has_hint» = asNumber (held-flag (t .«has_hint») (u .«has_hint») (t .«ratio_hint») (u .«ratio_hint») (ap (λ m. m .hint) e) i);
+        «pad_has_hint» = zeros 3;
         «ratio_hint» = held-number (t .«has_hint») (u .«has_hint») (t .«ratio_hint») (u .«ratio_hint») (ap (λ m. m .hint) e) i;
         regime = e i .regime;
         «badlock_recovered» = asNumber (e i .recovered);
         «lo_uncorroborated» = asNumber (e i .uncorroborated);
+        «pad_lo_uncorroborated» = zeros 2;
       }
 
 -- ---- a challenger
@@ -187,10 +193,13 @@ hyp-means h g a b e =
       «lead_marks» = e i .lead;
       «age_marks» = e i .age;
       origin = originCode (e i .origin);
+      «pad_origin» = zeros 3;
       «retain_marks» = retained (e i .origin);
       reported = asNumber (e i .reported);
+      «pad_reported» = zeros 3;
       «ln_lo» = lo i;
       «ln_hi» = hi i;
+      «pad_ln_hi» = zeros 4;
       serial = e i .serial;
     }
 
@@ -262,8 +271,10 @@ module _ (b c : TimingBank) (p : Whole b) (q : Whole c) (e : Banked.view b ≡ B
       λ i. record {
         width = e i .width;
         switching = asNumber (e i .switching);
+        «pad_switching» = zeros 3;
         «primary_score» = e i .score;
         «primary_gap_score» = e i .gap-score;
+        «pad_primary_gap_score» = zeros 4;
         challengers = carried-means plainHyp blankHyp viewHyp Lawful hyp-means (b .challengers) (c .challengers) (b .«challengers_len») (c .«challengers_len») (p .challengers ∙ sym (q .challengers)) (v .challengers) (w .challengers) (p .each) (q .each) crews i;
         «challengers_len» = counted-means viewHyp (b .challengers) (c .challengers) (b .«challengers_len») (c .«challengers_len») (v .challengers) (w .challengers) crews i;
         streak = first-means (λ x. x) nought (b .streak) (c .streak) (b .«streak_len») (c .«streak_len») (p .streak ∙ sym (q .streak)) (v .streak) (w .streak) streaks i;
@@ -273,10 +284,12 @@ module _ (b c : TimingBank) (p : Whole b) (q : Whole c) (e : Banked.view b ≡ B
         «has_side» = asNumber (given-flag (b .«has_side») (c .«has_side») (b .«streak_side») (c .«streak_side») sides i);
         «streak_side» = given-value asNumber 0 (b .«has_side») (c .«has_side») (b .«streak_side») (c .«streak_side») sides i;
         «has_last_gap» = asNumber (given-flag (b .«has_last_gap») (c .«has_last_gap») (b .«last_gap») (c .«last_gap») lasts i);
+        «pad_has_last_gap» = zeros 1;
         «last_gap» = given-value (λ x. x) nought (b .«has_last_gap») (c .«has_last_gap») (b .«last_gap») (c .«last_gap») lasts i;
         «marks_seen» = e i .marks;
         «gaps_seen» = e i .gaps;
         «has_pending» = asNumber (given-flag (b .«has_pending») (c .«has_pending») (b .pending) (c .pending) pendings i);
+        «pad_has_pending» = zeros 7;
         pending = given-value (λ x. x) 0 (b .«has_pending») (c .«has_pending») (b .pending) (c .pending) pendings i;
         log = first-means plainRecord blankRecord (b .log) (c .log) (b .«log_len») (c .«log_len») (p .log ∙ sym (q .log)) (v .log) (w .log) logged i;
         «log_len» = counted (b .log) (c .log) (b .«log_len») (c .«log_len») (v .log) (w .log) logged i;

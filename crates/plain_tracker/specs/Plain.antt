@@ -39,6 +39,11 @@ carried f z (suc n) (x ∷ l) = f x ∷ carried f z n l
 abbrev pub firstOf : ℕ → List Float → List Float
 firstOf n l = carried (λ x. x) nought n l
 
+-- what a host finds between two fields: n bytes of 0. A field `pad_X` stands in place of the padding after X; it is no part of a state, and is not looked at
+abbrev pub zeros : ℕ → List ℕ
+zeros zero = []
+zeros (suc n) = 0 ∷ zeros n
+
 -- a number where a flag says that there is one, else 0
 abbrev pub orNought : Bool → Float → Float
 orNought has x = cond has x nought
@@ -54,6 +59,7 @@ plainPair p = record {
   ready = asNumber (p .ready);
   confirmed = asNumber (p .confirmed);
   «placeholder_is_lo» = asNumber (p .«placeholder_is_lo»);
+  «pad_placeholder_is_lo» = zeros 5;
   «lo_n» = p .«lo_n»;
 }
 
@@ -75,14 +81,26 @@ isPair p = isFlag (p .ready) && (isFlag (p .confirmed) && isFlag (p .«placehold
 -- ---- the ring
 
 abbrev pub plainEntry : RingEntry → PlainEntry
-plainEntry e = record { «dur_ms» = e .«dur_ms»; «assigned_dit» = asNumber (e .«assigned_dit»); «pre_lo» = e .«pre_lo»; «pre_hi» = e .«pre_hi» }
+plainEntry e = record {
+  «dur_ms» = e .«dur_ms»;
+  «assigned_dit» = asNumber (e .«assigned_dit»);
+  «pad_assigned_dit» = zeros 3;
+  «pre_lo» = e .«pre_lo»;
+  «pre_hi» = e .«pre_hi»;
+}
 
 abbrev pub entryOf : PlainEntry → RingEntry
 entryOf p = record { «dur_ms» = p .«dur_ms»; «assigned_dit» = asFlag (p .«assigned_dit»); «pre_lo» = p .«pre_lo»; «pre_hi» = p .«pre_hi» }
 
 -- places that hold nothing
 abbrev pub blankEntry : PlainEntry
-blankEntry = record { «dur_ms» = nought; «assigned_dit» = 0; «pre_lo» = nought; «pre_hi» = nought }
+blankEntry = record {
+  «dur_ms» = nought;
+  «assigned_dit» = 0;
+  «pad_assigned_dit» = zeros 3;
+  «pre_lo» = nought;
+  «pre_hi» = nought;
+}
 
 abbrev pub noEntry : RingEntry
 noEntry = record { «dur_ms» = nought; «assigned_dit» = false; «pre_lo» = nought; «pre_hi» = nought }
@@ -102,16 +120,21 @@ plainTracker t = record {
   ring = carried plainEntry blankEntry (t .«ring_len») (t .ring);
   «ring_len» = t .«ring_len»;
   «has_wpm» = asNumber (t .«has_wpm»);
+  «pad_has_wpm» = zeros 3;
   «wpm_ema» = orNought (t .«has_wpm») (t .«wpm_ema»);
   recent = firstOf (t .«recent_len») (t .recent);
+  «pad_recent» = zeros 4;
   «recent_len» = t .«recent_len»;
   «has_egap» = asNumber (t .«has_egap»);
+  «pad_has_egap» = zeros 3;
   «mu_egap_ms» = orNought (t .«has_egap») (t .«mu_egap_ms»);
   «has_hint» = asNumber (t .«has_hint»);
+  «pad_has_hint» = zeros 3;
   «ratio_hint» = orNought (t .«has_hint») (t .«ratio_hint»);
   regime = t .regime;
   «badlock_recovered» = asNumber (t .«badlock_recovered»);
   «lo_uncorroborated» = asNumber (t .«lo_uncorroborated»);
+  «pad_lo_uncorroborated» = zeros 2;
 }
 
 abbrev pub trackerOf : PlainTracker → SpeedTracker

@@ -14,6 +14,7 @@ pub struct PlainPair {
     pub ready: u8,
     pub confirmed: u8,
     pub placeholder_is_lo: u8,
+    pub pad_placeholder_is_lo: [u8; 5],
     pub lo_n: usize,
 }
 
@@ -22,6 +23,7 @@ pub struct PlainPair {
 pub struct PlainEntry {
     pub dur_ms: f32,
     pub assigned_dit: u8,
+    pub pad_assigned_dit: [u8; 3],
     pub pre_lo: f32,
     pub pre_hi: f32,
 }
@@ -33,14 +35,19 @@ pub struct PlainTracker {
     pub ring: [PlainEntry; 12],
     pub ring_len: usize,
     pub has_wpm: u8,
+    pub pad_has_wpm: [u8; 3],
     pub wpm_ema: f32,
     pub recent: [f32; 5],
+    pub pad_recent: [u8; 4],
     pub recent_len: usize,
     pub has_egap: u8,
+    pub pad_has_egap: [u8; 3],
     pub mu_egap_ms: f32,
     pub has_hint: u8,
+    pub pad_has_hint: [u8; 3],
     pub ratio_hint: f32,
     pub regime: u32,
     pub badlock_recovered: u8,
     pub lo_uncorroborated: u8,
+    pub pad_lo_uncorroborated: [u8; 2],
 }

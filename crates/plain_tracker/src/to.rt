@@ -66,6 +66,7 @@ pub fn plain_pair(p: ClusterPair) -> PlainPair
         ready: number_of(p.ready),
         confirmed: number_of(p.confirmed),
         placeholder_is_lo: number_of(p.placeholder_is_lo),
+        pad_placeholder_is_lo: [0; 5],
         lo_n: p.lo_n,
     }
 }
@@ -77,6 +78,7 @@ pub fn plain_entry(e: RingEntry) -> PlainEntry
     PlainEntry {
         dur_ms: e.dur_ms,
         assigned_dit: number_of(e.assigned_dit),
+        pad_assigned_dit: [0; 3],
         pre_lo: e.pre_lo,
         pre_hi: e.pre_hi,
     }
@@ -89,6 +91,7 @@ pub(crate) fn blank_entry() -> PlainEntry
     PlainEntry {
         dur_ms: 0.0,
         assigned_dit: 0,
+        pad_assigned_dit: [0; 3],
         pre_lo: 0.0,
         pre_hi: 0.0,
     }
@@ -125,16 +128,21 @@ pub fn plain_tracker(t: SpeedTracker) -> PlainTracker
         ring,
         ring_len: t.ring_len,
         has_wpm: number_of(t.has_wpm),
+        pad_has_wpm: [0; 3],
         wpm_ema: or_nought(t.has_wpm, t.wpm_ema),
         recent,
+        pad_recent: [0; 4],
         recent_len: t.recent_len,
         has_egap: number_of(t.has_egap),
+        pad_has_egap: [0; 3],
         mu_egap_ms: or_nought(t.has_egap, t.mu_egap_ms),
         has_hint: number_of(t.has_hint),
+        pad_has_hint: [0; 3],
         ratio_hint: or_nought(t.has_hint, t.ratio_hint),
         regime: t.regime,
         badlock_recovered: number_of(t.badlock_recovered),
         lo_uncorroborated: number_of(t.lo_uncorroborated),
+        pad_lo_uncorroborated: [0; 2],
     }
 }
 
@@ -151,6 +159,7 @@ pub fn blank_tracker() -> PlainTracker
         ready: 0,
         confirmed: 0,
         placeholder_is_lo: 0,
+        pad_placeholder_is_lo: [0; 5],
         lo_n: 0,
     };
     let ring = [z; 12];
@@ -159,15 +168,20 @@ pub fn blank_tracker() -> PlainTracker
         ring,
         ring_len: 0,
         has_wpm: 0,
+        pad_has_wpm: [0; 3],
         wpm_ema: 0.0,
         recent: [0.0; 5],
+        pad_recent: [0; 4],
         recent_len: 0,
         has_egap: 0,
+        pad_has_egap: [0; 3],
         mu_egap_ms: 0.0,
         has_hint: 0,
+        pad_has_hint: [0; 3],
         ratio_hint: 0.0,
         regime: 0,
         badlock_recovered: 0,
         lo_uncorroborated: 0,
+        pad_lo_uncorroborated: [0; 2],
     }
 }

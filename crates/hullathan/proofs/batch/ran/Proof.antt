@@ -15,11 +15,15 @@ is-good-requires c κs = search needs
 run-on-requires : tie.Need-run-on-requires
 run-on-requires c κs = (c .before .is-good .ensures .1 (c .if2 .taken), c .before .before .before .if1 .taken)
 
+or-kept-requires : tie.Need-or-kept-requires
+or-kept-requires c κs = search needs
+
 returns : tie.Need-returns
 returns c =
-    let a = c .before .before .before .before .before .args in
-    let f = c .before .before .before .station-from .ensures in
-    runs-good (a .p) (a .b) _ _ (c .before .before .before .before .if1 .taken) (sym (good-is (a .p) _ _ (c .before .before .is-good .ensures .0) f) ∙ c .before .if2 .taken) f (c .run-on .ensures)
+    let d = c .before in
+    let a = d .before .before .before .before .before .args in
+    let f = d .before .before .before .station-from .ensures in
+    runs-good (a .p) (a .b) _ _ _ (d .before .before .before .before .if1 .taken) (sym (good-is (a .p) _ _ (d .before .before .is-good .ensures .0) f) ∙ d .before .if2 .taken) f (d .run-on .ensures) (c .or-kept .ensures)
 
 returns-2 : tie.Need-returns-2
 returns-2 c =
@@ -33,4 +37,4 @@ returns-3 c = let a = c .before .args in runs-not (a .p) (a .b) (not-few (a .p) 
 pub ran-spec : {M : Type 1} → statement M
 ran-spec =
     tie.close
-    (tie.spec station-from-requires is-good-requires run-on-requires returns returns-2 returns-3)
+    (tie.spec station-from-requires is-good-requires run-on-requires or-kept-requires returns returns-2 returns-3)

@@ -16,6 +16,12 @@ array-set-from-left c = search needs
 add-t8 : tie.Need-add-t8
 add-t8 c = search needs
 
+add-bytes-3 : tie.Need-add-bytes-3
+add-bytes-3 c = search needs
+
+bytes-3-requires : tie.Need-bytes-3-requires
+bytes-3-requires c κs = search needs
+
 add-float-at : tie.Need-add-float-at
 add-float-at c = search needs
 
@@ -28,18 +34,32 @@ add-float-at-2 c = search needs
 float-at-requires-2 : tie.Need-float-at-requires-2
 float-at-requires-2 c κs = search needs
 
-add-t14 : tie.Need-add-t14
-add-t14 c = search needs
+add-bytes-4 : tie.Need-add-bytes-4
+add-bytes-4 c = search needs
 
-add-t16 : tie.Need-add-t16
-add-t16 c = search needs
+bytes-4-requires : tie.Need-bytes-4-requires
+bytes-4-requires c κs = search needs
 
-add-t19 : tie.Need-add-t19
-add-t19 c = search needs
+add-t18 : tie.Need-add-t18
+add-t18 c = search needs
+
+add-t20 : tie.Need-add-t20
+add-t20 c = search needs
+
+add-t23 : tie.Need-add-t23
+add-t23 c = search needs
 
 returns : tie.Need-returns
 unfolding ending
-returns c = rw (c .float-at2 .ensures, c .before .float-at .ensures, c .before .before .departure-placed2 .ensures, c .before .before .before .departure-placed .ensures)
+returns c =
+    rw (
+      c .bytes-4 .ensures,
+      c .before .float-at2 .ensures,
+      c .before .before .float-at .ensures,
+      c .before .before .before .bytes-3 .ensures,
+      c .before .before .before .before .departure-placed2 .ensures,
+      c .before .before .before .before .before .departure-placed .ensures,
+    )
 
 pub answer-placed-spec : {M : Type 1} → statement M
 answer-placed-spec =
@@ -49,11 +69,15 @@ answer-placed-spec =
     departure-placed-requires-2
     array-set-from-left
     add-t8
+    add-bytes-3
+    bytes-3-requires
     add-float-at
     float-at-requires
     add-float-at-2
     float-at-requires-2
-    add-t14
-    add-t16
-    add-t19
+    add-bytes-4
+    bytes-4-requires
+    add-t18
+    add-t20
+    add-t23
     returns)

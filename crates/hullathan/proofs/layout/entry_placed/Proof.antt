@@ -13,6 +13,12 @@ float-at-requires c κs = search needs
 add-t5 : tie.Need-add-t5
 add-t5 c = search needs
 
+add-bytes-3 : tie.Need-add-bytes-3
+add-bytes-3 c = search needs
+
+bytes-3-requires : tie.Need-bytes-3-requires
+bytes-3-requires c κs = search needs
+
 add-float-at-2 : tie.Need-add-float-at-2
 add-float-at-2 c = search needs
 
@@ -27,7 +33,13 @@ float-at-requires-3 c κs = search needs
 
 returns : tie.Need-returns
 unfolding ending
-returns c = rw (c .float-at3 .ensures, c .before .float-at2 .ensures, c .before .before .float-at .ensures)
+returns c =
+    rw (
+      c .float-at3 .ensures,
+      c .before .float-at2 .ensures,
+      c .before .before .bytes-3 .ensures,
+      c .before .before .before .float-at .ensures,
+    )
 
 pub entry-placed-spec : {M : Type 1} → statement M
 entry-placed-spec =
@@ -36,6 +48,8 @@ entry-placed-spec =
     add-float-at
     float-at-requires
     add-t5
+    add-bytes-3
+    bytes-3-requires
     add-float-at-2
     float-at-requires-2
     add-float-at-3

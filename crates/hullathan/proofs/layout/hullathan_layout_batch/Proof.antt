@@ -24,7 +24,13 @@ array-set-from-answers c = search needs
 
 returns : tie.Need-returns
 unfolding ending
-returns c = rw (c .answer-placed2 .ensures, c .before .answer-placed .ensures, c .before .before .event-placed2 .ensures, c .before .before .before .event-placed .ensures)
+returns c =
+    rw (
+      c .answer-placed2 .ensures,
+      c .before .answer-placed .ensures,
+      c .before .before .event-placed2 .ensures,
+      c .before .before .before .event-placed .ensures,
+    )
 
 pub hullathan-layout-batch-spec : {M : Type 1} → statement M
 hullathan-layout-batch-spec =

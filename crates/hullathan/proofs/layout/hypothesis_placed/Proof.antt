@@ -28,11 +28,23 @@ add-t9 c = search needs
 add-t10 : tie.Need-add-t10
 add-t10 c = search needs
 
-add-t11 : tie.Need-add-t11
-add-t11 c = search needs
+add-bytes-3 : tie.Need-add-bytes-3
+add-bytes-3 c = search needs
 
-add-t12 : tie.Need-add-t12
-add-t12 c = search needs
+bytes-3-requires : tie.Need-bytes-3-requires
+bytes-3-requires c κs = search needs
+
+add-t13 : tie.Need-add-t13
+add-t13 c = search needs
+
+add-t14 : tie.Need-add-t14
+add-t14 c = search needs
+
+add-bytes-3-2 : tie.Need-add-bytes-3-2
+add-bytes-3-2 c = search needs
+
+bytes-3-requires-2 : tie.Need-bytes-3-requires-2
+bytes-3-requires-2 c κs = search needs
 
 add-float-at-3 : tie.Need-add-float-at-3
 add-float-at-3 c = search needs
@@ -46,12 +58,28 @@ add-float-at-4 c = search needs
 float-at-requires-4 : tie.Need-float-at-requires-4
 float-at-requires-4 c κs = search needs
 
-add-t18 : tie.Need-add-t18
-add-t18 c = search needs
+add-bytes-4 : tie.Need-add-bytes-4
+add-bytes-4 c = search needs
+
+bytes-4-requires : tie.Need-bytes-4-requires
+bytes-4-requires c κs = search needs
+
+add-t24 : tie.Need-add-t24
+add-t24 c = search needs
 
 returns : tie.Need-returns
 unfolding ending
-returns c = rw (c .float-at4 .ensures, c .before .float-at3 .ensures, c .before .before .float-at2 .ensures, c .before .before .before .float-at .ensures, c .before .before .before .before .tracker-placed .ensures)
+returns c =
+    rw (
+      c .bytes-4 .ensures,
+      c .before .float-at4 .ensures,
+      c .before .before .float-at3 .ensures,
+      c .before .before .before .bytes-32 .ensures,
+      c .before .before .before .before .bytes-3 .ensures,
+      c .before .before .before .before .before .float-at2 .ensures,
+      c .before .before .before .before .before .before .float-at .ensures,
+      c .before .before .before .before .before .before .before .tracker-placed .ensures,
+    )
 
 pub hypothesis-placed-spec : {M : Type 1} → statement M
 hypothesis-placed-spec =
@@ -65,11 +93,17 @@ hypothesis-placed-spec =
     add-t8
     add-t9
     add-t10
-    add-t11
-    add-t12
+    add-bytes-3
+    bytes-3-requires
+    add-t13
+    add-t14
+    add-bytes-3-2
+    bytes-3-requires-2
     add-float-at-3
     float-at-requires-3
     add-float-at-4
     float-at-requires-4
-    add-t18
+    add-bytes-4
+    bytes-4-requires
+    add-t24
     returns)

@@ -19,9 +19,19 @@ float-at-requires-3 c κs = search needs
 float-at-requires-4 : tie.Need-float-at-requires-4
 float-at-requires-4 c κs = search needs
 
+bytes-5-requires : tie.Need-bytes-5-requires
+bytes-5-requires c κs = search needs
+
 returns : tie.Need-returns
 unfolding ending
-returns c = rw (c .float-at4 .ensures, c .before .float-at3 .ensures, c .before .before .float-at2 .ensures, c .before .before .before .float-at .ensures)
+returns c =
+    rw (
+      c .bytes-5 .ensures,
+      c .before .float-at4 .ensures,
+      c .before .before .float-at3 .ensures,
+      c .before .before .before .float-at2 .ensures,
+      c .before .before .before .before .float-at .ensures,
+    )
 
 pub pair-placed-spec : {M : Type 1} → statement M
 pair-placed-spec =
@@ -32,4 +42,5 @@ pair-placed-spec =
     array-write-init
     float-at-requires-3
     float-at-requires-4
+    bytes-5-requires
     returns)

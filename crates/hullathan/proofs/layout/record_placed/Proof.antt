@@ -22,9 +22,20 @@ float-at-requires-2 c κs = search needs
 add-t9 : tie.Need-add-t9
 add-t9 c = search needs
 
+add-bytes-7 : tie.Need-add-bytes-7
+add-bytes-7 c = search needs
+
+bytes-7-requires : tie.Need-bytes-7-requires
+bytes-7-requires c κs = search needs
+
 returns : tie.Need-returns
 unfolding ending
-returns c = rw (c .float-at2 .ensures, c .before .float-at .ensures)
+returns c =
+    rw (
+      c .bytes-7 .ensures,
+      c .before .float-at2 .ensures,
+      c .before .before .float-at .ensures,
+    )
 
 pub record-placed-spec : {M : Type 1} → statement M
 record-placed-spec =
@@ -36,4 +47,6 @@ record-placed-spec =
     add-float-at-2
     float-at-requires-2
     add-t9
+    add-bytes-7
+    bytes-7-requires
     returns)

@@ -33,7 +33,13 @@ float-at-requires-4 c κs = search needs
 
 returns : tie.Need-returns
 unfolding ending
-returns c = rw (c .float-at4 .ensures, c .before .float-at3 .ensures, c .before .before .float-at2 .ensures, c .before .before .before .float-at .ensures)
+returns c =
+    rw (
+      c .float-at4 .ensures,
+      c .before .float-at3 .ensures,
+      c .before .before .float-at2 .ensures,
+      c .before .before .before .float-at .ensures,
+    )
 
 pub rival-placed-spec : {M : Type 1} → statement M
 rival-placed-spec =

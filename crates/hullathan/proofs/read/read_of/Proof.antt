@@ -7,6 +7,9 @@ use Rattle.hullathan.proofs.read.read_of.Tie as tie
 rivals-requires : tie.Need-rivals-requires
 rivals-requires c κs = search needs
 
+plain-log-requires : tie.Need-plain-log-requires
+plain-log-requires c κs = search needs
+
 number-of-requires : tie.Need-number-of-requires
 number-of-requires c κs = search needs
 
@@ -24,14 +27,15 @@ held-requires c κs = search needs
 
 returns : tie.Need-returns
 returns c =
-    let s = c .before .before .before .before .before .before .before .before in
-    reading-is (s .args .s) _ _ _ _ _ _ (s .pre) (c .before .before .before .before .number-of .ensures) (c .before .before .before .number-of2 .ensures) (c .before .before .number-of3 .ensures) (c .before .dit-estimate .ensures) (c .held .ensures) (c .before .before .before .before .before .rivals .ensures)
+    let s = c .before .before .before .before .before .before .before .before .before .before in
+    reading-is (s .args .s) _ _ _ _ _ _ _ (s .pre) (c .before .before .before .before .number-of .ensures) (c .before .before .before .number-of2 .ensures) (c .before .before .number-of3 .ensures) (c .before .dit-estimate .ensures) (c .held .ensures) (c .before .before .before .before .before .before .rivals .ensures) (c .before .before .before .before .before .plain-log .ensures)
 
 pub read-of-spec : {M : Type 1} → statement M
 read-of-spec =
     tie.close
     (tie.spec
     rivals-requires
+    plain-log-requires
     number-of-requires
     number-of-requires-2
     number-of-requires-3
