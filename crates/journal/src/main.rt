@@ -9,7 +9,8 @@ use libc::STDOUT_FILENO;
 ghost use mathlib.Core.Path.{_≡_};
 ghost use mathlib.Core.Bool.{true};
 ghost use Prim.Native.Nat.{_≤_, _<_};
-ghost use lib.ListN.{length};
+ghost use lib.ListN.{length, take};
+ghost use Rattle.io.specs.Counts.{Counts};
 ghost use Rattle.libc.specs.Io.{Moved};
 ghost use Rattle.journal_lines.specs.Pieces.{end};
 ghost use Rattle.journal_lines.specs.Parts.{Goes, viewed};
@@ -81,6 +82,16 @@ fn answer(j: Journal, piece: &[u8], out: &mut [u8]) -> Went
     went
 }
 
+// The bytes at the front of a buffer are answered.
+fn answer_front(j: Journal, n: usize, buffer: &[u8], out: &mut [u8]) -> Went
+    requires { ⌜ Goes j ⌝ }
+    requires { ⌜ Counts n (now buffer) ⌝ }
+    requires { ⌜ 80 ≤ length (now out) ⌝ }
+    ensures { λ r. ⌜ Heard j (take n (now (buffer .entry))) r ⌝ }
+{
+    answer(j, &buffer[..n], out)
+}
+
 // What a read answered: it failed, the input is at its end, or so many bytes stand at the front of the buffer.
 fn take(j: Journal, got: isize, buffer: &[u8], out: &mut [u8]) -> Went
     requires { ⌜ Goes j ⌝ }
@@ -103,8 +114,7 @@ fn take(j: Journal, got: isize, buffer: &[u8], out: &mut [u8]) -> Went
             well: true,
         };
     }
-    let n = io::count(got, buffer);
-    answer(j, &buffer[..n], out)
+    answer_front(j, io::count(got, buffer), buffer, out)
 }
 
 // Reads once, and answers what came. Where no line may be read any more, nothing is read.

@@ -19,11 +19,8 @@ returns-2 c = took-ended _ _ _ (c .before .before .before .before .fits .got) (c
 count-requires : tie.Need-count-requires
 count-requires c κs = search needs
 
-slice-aggregate-answer : tie.Need-slice-aggregate-answer
-slice-aggregate-answer c = search needs
-
-answer-requires : tie.Need-answer-requires
-answer-requires c κs = search needs
+answer-front-requires : tie.Need-answer-front-requires
+answer-front-requires c κs = search needs
 
 same-length : tie.Need-same-length
 same-length c = search needs
@@ -31,10 +28,10 @@ same-length c = search needs
 returns-3 : tie.Need-returns-3
 returns-3 c =
     let a = c .before .before in
-    let n = a .before .before .before in
+    let n = a .before .before in
     let s = n .before .before .before .before .before in
     took-heard _ _ _ (s .fits .got) (n .before .before .if1 .left) (n .before .if2 .left)
-    (s .pre .1 .0) _ (n .count .ensures .1) _ (a .answer .ensures)
+    (s .pre .1 .0) _ (n .count .ensures .1) _ (a .answer-front .ensures)
 
 pub take-spec : {M : Type 1} → statement M
 take-spec =
@@ -45,7 +42,6 @@ take-spec =
     returns
     returns-2
     count-requires
-    slice-aggregate-answer
-    answer-requires
+    answer-front-requires
     same-length
     returns-3)
