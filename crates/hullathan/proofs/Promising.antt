@@ -35,7 +35,7 @@ use Rattle.hullathan.specs.Host.{Answers, Few, after, asked, choiceSound
 use Rattle.hullathan.proofs.Asking.{quiet-choice}
 use Rattle.hullathan.proofs.Rows.{left-long, map-long}
 use Rattle.hullathan.proofs.Running.{outcomes-long, runnable-few}
-use Rattle.hullathan.specs.Promise.{AllFit, Batched, Did, Promised, Turn, TurnedFrom, addCall, answerOf, answersOf, batch, before, call, callsIn, callsOn, causeOf, codeOf, departureOf, eventsOf, left}
+use Rattle.hullathan.specs.Promise.{AllFit, Batched, Did, Promised, Turn, TurnedFrom, addCall, afterOne, answerOf, answersOf, batch, before, call, callsIn, callsOn, causeOf, codeOf, departureOf, eventsOf, left}
 
 -- ---- numbers, read back
 
@@ -110,37 +110,45 @@ contract m e r h s c k = (tt, record { station = k .0 ∙ ap (λ (o : Model.Outc
 abbrev Runs : Type 0
 Runs = List (Ran Model.Station Returned)
 
-abbrev addRun : Option Event → PlainAnswer → Model.Station → Runs → Runs
-addRun none r m earlier = earlier
-addRun (some e) r m earlier = record { before = m; event = e; returned = record { after = asked m (some e) .station; row = r } } ∷ earlier
+abbrev addRun : Option Event → PlainAnswer → Model.Station → Model.Station → Runs → Runs
+addRun none r m n earlier = earlier
+addRun (some e) r m n earlier = record { before = m; event = e; returned = record { after = n; row = r } } ∷ earlier
 
-ranOn : Model.Station → List PlainEvent → List PlainAnswer → Runs → Runs
-ranOn m [] rs earlier = earlier
-ranOn m (e ∷ es) [] earlier = earlier
-ranOn m (e ∷ es) (r ∷ rs) earlier = ranOn (asked m (ofEvent e) .station) es rs (addRun (ofEvent e) r m earlier)
+ranOn : Model.Station → Model.Station → List PlainEvent → List PlainAnswer → Runs → Runs
+ranOn m n [] rs earlier = earlier
+ranOn m n (e ∷ es) [] earlier = earlier
+ranOn m n (e ∷ es) (r ∷ rs) earlier =
+    let given = asked m (ofEvent e) .station in
+    ranOn given n es rs (addRun (ofEvent e) r m (afterOne given n es) earlier)
 
 ranIn : List Turn → Runs
 ranIn [] = []
-ranIn (t ∷ earlier) = ranOn (meant (before t)) (eventsOf t) (answersOf t) (ranIn earlier)
+ranIn (t ∷ earlier) = ranOn (meant (before t)) (meant (left t)) (eventsOf t) (answersOf t) (ranIn earlier)
 
 abbrev as-call : Ran Model.Station Returned → Call
 as-call c = record { event = c .event; answer = answered (c .returned); before = c .before; after = c .returned .after }
 
-add-viewed : (o : Option Event) (r : PlainAnswer) (m : Model.Station) (l : Runs) → map as-call (addRun o r m l) ≡ addCall o r m (map as-call l)
-add-viewed none r m l = refl
-add-viewed (some e) r m l = refl
+add-viewed : (o : Option Event) (r : PlainAnswer) (m n : Model.Station) (l : Runs)
+    → map as-call (addRun o r m n l) ≡ addCall o r m n (map as-call l)
+add-viewed none r m n l = refl
+add-viewed (some e) r m n l = refl
 
-on-viewed : (m : Model.Station) (es : List PlainEvent) (rs : List PlainAnswer) (l : Runs) → map as-call (ranOn m es rs l) ≡ callsOn m es rs (map as-call l)
+on-viewed : (m n : Model.Station) (es : List PlainEvent) (rs : List PlainAnswer) (l : Runs)
+    → map as-call (ranOn m n es rs l) ≡ callsOn m n es rs (map as-call l)
 unfolding ranOn callsOn
-on-viewed m [] rs l = refl
-on-viewed m (e ∷ es) [] l = refl
-on-viewed m (e ∷ es) (r ∷ rs) l =
-    on-viewed (asked m (ofEvent e) .station) es rs (addRun (ofEvent e) r m l) ∙ ap (callsOn (asked m (ofEvent e) .station) es rs) (add-viewed (ofEvent e) r m l)
+on-viewed m n [] rs l = refl
+on-viewed m n (e ∷ es) [] l = refl
+on-viewed m n (e ∷ es) (r ∷ rs) l =
+    let given = asked m (ofEvent e) .station in
+    on-viewed given n es rs (addRun (ofEvent e) r m (afterOne given n es) l)
+    ∙ ap (callsOn given n es rs) (add-viewed (ofEvent e) r m (afterOne given n es) l)
 
 in-viewed : (turns : List Turn) → map as-call (ranIn turns) ≡ callsIn turns
 unfolding ranIn callsIn
 in-viewed [] = refl
-in-viewed (t ∷ earlier) = on-viewed (meant (before t)) (eventsOf t) (answersOf t) (ranIn earlier) ∙ ap (callsOn (meant (before t)) (eventsOf t) (answersOf t)) (in-viewed earlier)
+in-viewed (t ∷ earlier) =
+    on-viewed (meant (before t)) (meant (left t)) (eventsOf t) (answersOf t) (ranIn earlier)
+    ∙ ap (callsOn (meant (before t)) (meant (left t)) (eventsOf t) (answersOf t)) (in-viewed earlier)
 
 -- the event carries the number that was given, if it has one
 abbrev CarriesAny : Option Event → Type 0
@@ -160,17 +168,32 @@ carries-any n live x h =
 abbrev From : Model.Station → Runs → Model.Station → Type 0
 From = RanFrom afterwards Called
 
-add-from : (start : Model.Station) (o : Option Event) (m : Model.Station) (l : Runs) → CarriesAny o → length (asked m o .answer .departures) ≤ mostLeft → From start l m → From start (addRun o (rowOf (asked m o)) m l) (asked m o .station)
+-- n is what the definitions give
+add-from : (start : Model.Station) (o : Option Event) (m n : Model.Station) (l : Runs) → CarriesAny o
+    → length (asked m o .answer .departures) ≤ mostLeft → n ≡ asked m o .station → From start l m
+    → From start (addRun o (rowOf (asked m o)) m n l) n
 unfolding RanFrom asked
-add-from start none m l c h t = t
-add-from start (some e) m l c h t = (t, (c, (refl, row-back (asked m (some e)) h)), refl)
+add-from start none m n l c h i t = subst (From start l) (sym i) t
+add-from start (some e) m n l c h i t = (t, (c, (i, row-back (asked m (some e)) h)), refl)
 
-on-from : (start m : Model.Station) (es : List PlainEvent) (l : Runs) → AllFit es → Few (outcomes m (map ofEvent es)) → From start l m → From start (ranOn m es (map rowOf (outcomes m (map ofEvent es))) l) (after m (map ofEvent es))
+after-given : (given n : Model.Station) (es : List PlainEvent) → n ≡ after given (map ofEvent es)
+    → afterOne given n es ≡ given
+unfolding after
+after-given given n [] i = i
+after-given given n (e ∷ es) i = refl
+
+on-from : (start m n : Model.Station) (es : List PlainEvent) (l : Runs) → AllFit es → Few (outcomes m (map ofEvent es))
+    → n ≡ after m (map ofEvent es) → From start l m
+    → From start (ranOn m n es (map rowOf (outcomes m (map ofEvent es))) l) n
 unfolding ranOn after outcomes AllFit Few
-on-from start m [] l c f t = t
-on-from start m (e ∷ es) l c f t =
-    on-from start (asked m (ofEvent e) .station) es (addRun (ofEvent e) (rowOf (asked m (ofEvent e))) m l) (c .1) (f .1)
-    (add-from start (ofEvent e) m l (carries-any (e .kind) (e .live) (e .value) (c .0)) (f .0) t)
+on-from start m n [] l c f i t = subst (From start l) (sym i) t
+on-from start m n (e ∷ es) l c f i t =
+    let o = asked m (ofEvent e) in
+    let k = afterOne (o .station) n es in
+    let given : k ≡ o .station = after-given (o .station) n es i in
+    on-from start (o .station) n es (addRun (ofEvent e) (rowOf o) m k l) (c .1) (f .1) i
+    (subst (From start (addRun (ofEvent e) (rowOf o) m k l)) given
+    (add-from start (ofEvent e) m k l (carries-any (e .kind) (e .live) (e .value) (c .0)) (f .0) given t))
 
 -- ---- a turn: what its contract says, event by event
 
@@ -240,11 +263,14 @@ record Trail (first : PlainStation) (turns : List Turn) (now : PlainStation) : T
   pub sound : good now ≡ true
   pub from : From (meant first) (ranIn turns) (meant now)
 
-turn-trail : (first p : PlainStation) (es : List PlainEvent) (rs : List PlainAnswer) (q : PlainStation) (l : Runs) → Turned p es rs q → From (meant first) l (meant p) → From (meant first) (ranOn (meant p) es rs l) (meant q)
+turn-trail : (first p : PlainStation) (es : List PlainEvent) (rs : List PlainAnswer) (q : PlainStation) (l : Runs)
+    → Turned p es rs q → From (meant first) l (meant p)
+    → From (meant first) (ranOn (meant p) (meant q) es rs l) (meant q)
 turn-trail first p es rs q l h f =
     let m = meant p in
-    subst (λ (z : Model.Station). From (meant first) (ranOn m es rs l) z) (sym (h .state))
-    (subst (λ (xs : List PlainAnswer). From (meant first) (ranOn m es xs l) (after m (map ofEvent es))) (sym (h .told)) (on-from (meant first) m es l (h .fit) (h .few) f))
+    let n = meant q in
+    subst (λ (xs : List PlainAnswer). From (meant first) (ranOn m n es xs l) n) (sym (h .told))
+    (on-from (meant first) m n es l (h .fit) (h .few) (h .state) f)
 
 trail : (first : PlainStation) → good first ≡ true → (turns : List Turn) (now : PlainStation) → TurnedFrom first turns now → Trail first turns now
 unfolding TurnedFrom RanFrom ranIn

@@ -15,6 +15,7 @@ use Rattle.bank_model.specs.declared.Departure.{Departure}
 use Rattle.station_model.specs.declared.Code.{Code}
 use Rattle.station_model.specs.declared.Code.the-variants.{Done, BecameReady, Switched, Nothing, Refused}
 use Rattle.station_model.specs.declared.Event.{Event}
+use Rattle.station_model.specs.Station.{number, order}
 use Rattle.station_model.specs.Station as Model
 use Rattle.station_model.specs.Watch.{Call, Watch}
 use Rattle.plain.specs.declared.PlainDeparture.{PlainDeparture}
@@ -24,13 +25,21 @@ use Rattle.hullathan.specs.declared.PlainAnswer.{PlainAnswer}
 use Rattle.hullathan.specs.declared.PlainBatch.{PlainBatch}
 use Rattle.hullathan.specs.Host.{Answers, Neat, Runs, asked, good, meant, ofEvent, runnable, switches}
 
--- ---- an answer, read back from its numbers
+-- ---- an answer, read back from its numbers, which are document 01's
 
 abbrev pub codeOf : ℕ → Code
-codeOf n = cond (leb 128 n) (Refused (n - 128)) (cond (eqb n 0) Done (cond (eqb n 1) BecameReady (cond (eqb n 2) Switched Nothing)))
+codeOf n =
+    cond (leb 128 n) (Refused (n - 128))
+    (cond (eqb n (number Done)) Done
+    (cond (eqb n (number BecameReady)) BecameReady
+    (cond (eqb n (number Switched)) Switched Nothing)))
 
 abbrev pub causeOf : ℕ → Cause
-causeOf n = cond (eqb n 0) Twin (cond (eqb n 1) Outscored (cond (eqb n 2) Aged (cond (eqb n 3) Replaced Cleared)))
+causeOf n =
+    cond (eqb n (order Twin)) Twin
+    (cond (eqb n (order Outscored)) Outscored
+    (cond (eqb n (order Aged)) Aged
+    (cond (eqb n (order Replaced)) Replaced Cleared)))
 
 abbrev pub departureOf : PlainDeparture → Departure
 departureOf d = record { serial = d .serial; cause = causeOf (d .cause) }
@@ -84,19 +93,28 @@ abbrev pub answersOf : Turn → List PlainAnswer
 answersOf (call p e r q) = r ∷ []
 answersOf (batch p b code q c) = cond (runnable p b) (take (b .len) (c .answers)) []
 
--- an event that none is, is passed over: it leaves the station as it was. The stations before and after a call within a batch are those that the definitions give
-abbrev pub addCall : Option Event → PlainAnswer → Model.Station → List Call → List Call
-addCall none r m earlier = earlier
-addCall (some e) r m earlier = record { event = e; answer = answerOf r; before = m; after = asked m (some e) .station } ∷ earlier
+-- an event that none is, is passed over: it leaves the station as it was
+abbrev pub addCall : Option Event → PlainAnswer → Model.Station → Model.Station → List Call → List Call
+addCall none r m n earlier = earlier
+addCall (some e) r m n earlier = record { event = e; answer = answerOf r; before = m; after = n } ∷ earlier
 
-unfoldable pub callsOn : Model.Station → List PlainEvent → List PlainAnswer → List Call → List Call
-callsOn m [] rs earlier = earlier
-callsOn m (e ∷ es) [] earlier = earlier
-callsOn m (e ∷ es) (r ∷ rs) earlier = callsOn (asked m (ofEvent e) .station) es rs (addCall (ofEvent e) r m earlier)
+-- The station after an event: the memory's, `left`, where no event of the turn follows. Between two events of a batch
+-- no station stands in the memory, and it is the one that the definitions give.
+abbrev pub afterOne : Model.Station → Model.Station → List PlainEvent → Model.Station
+afterOne given left [] = left
+afterOne given left (e ∷ es) = given
+
+-- the calls of a turn, from the station that stood in the memory before it to the one that it left there
+unfoldable pub callsOn : Model.Station → Model.Station → List PlainEvent → List PlainAnswer → List Call → List Call
+callsOn m left [] rs earlier = earlier
+callsOn m left (e ∷ es) [] earlier = earlier
+callsOn m left (e ∷ es) (r ∷ rs) earlier =
+    let given = asked m (ofEvent e) .station in
+    callsOn given left es rs (addCall (ofEvent e) r m (afterOne given left es) earlier)
 
 unfoldable pub callsIn : List Turn → List Call
 callsIn [] = []
-callsIn (t ∷ earlier) = callsOn (meant (before t)) (eventsOf t) (answersOf t) (callsIn earlier)
+callsIn (t ∷ earlier) = callsOn (meant (before t)) (meant (left t)) (eventsOf t) (answersOf t) (callsIn earlier)
 
 -- after every list of turns, the first on this memory: demand 3, and the memory holds a sound station
 pub record Promised (width : ℕ) (switching : Bool) (first : PlainStation) : Type 0 where

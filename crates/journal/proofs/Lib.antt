@@ -1,1 +1,3 @@
 pub mod Serving
+pub mod Taking
+pub mod Ending

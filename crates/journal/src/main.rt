@@ -1,13 +1,20 @@
-// The journal program (document 01, "Journal program"): reads lines from standard input, and answers each on standard output.
+// The journal program (document 01, "Journal program"): reads lines from standard input, and answers each on standard
+// output.
 use journal_lines::Journal;
 use journal_lines::inner::ends::end;
 use journal_lines::inner::ends::start;
 use journal_lines::inner::feed::feed;
 use libc::STDIN_FILENO;
 use libc::STDOUT_FILENO;
-ghost use Prim.Native.Nat.{_≤_};
-ghost use lib.ListN.{length};
-ghost use Rattle.journal_lines.specs.Parts.{Goes};
+ghost use mathlib.Core.Path.{_≡_};
+ghost use mathlib.Core.Bool.{true};
+ghost use Prim.Native.Nat.{_≤_, _<_};
+ghost use lib.ListN.{length, take};
+ghost use Rattle.io.specs.Counts.{Counts};
+ghost use Rattle.libc.specs.Io.{Moved};
+ghost use Rattle.journal_lines.specs.Pieces.{end};
+ghost use Rattle.journal_lines.specs.Parts.{Goes, viewed};
+ghost use Rattle.journal.specs.Program.{Answers, Closes, Heard, Read, Reads, Serves, Took, going};
 
 // The journal after what was read, whether there is more to read, and whether reading and writing went well.
 struct Went {
@@ -16,8 +23,8 @@ struct Went {
     well: bool,
 }
 
-// Writes what stands in a buffer, or says why it cannot.
-fn put(bytes: &[u8]) -> bool {
+// Writes, or says why it cannot. No contract says what goes out: it is what this is handed.
+fn write(bytes: &[u8]) -> bool {
     let is_written = io::write_all(STDOUT_FILENO, bytes);
     if !is_written {
         os::fail(b"journal: cannot write to standard output");
@@ -25,41 +32,73 @@ fn put(bytes: &[u8]) -> bool {
     is_written
 }
 
+// Goes on with a journal: after the last line that may be read there is no more to read.
+fn go_on(journal: Journal, well: bool) -> Went
+    ensures { λ r. ⌜ r ≡ going journal well ⌝ }
+{
+    if well {
+        let more = 0 < journal.left;
+        return Went {
+            journal,
+            more,
+            well: true,
+        };
+    }
+    Went {
+        journal,
+        more: false,
+        well: false,
+    }
+}
+
+// Writes the answers to what was heard, and goes on with the journal after it. `was` and `heard` stand here for what is
+// asked: they say whose answers these are.
+fn put(was: Went, heard: &[u8], next: Journal, answers: &[u8]) -> Went
+    requires { ⌜ was .well ≡ true ⌝ }
+    requires { ⌜ Answers (was .journal) (now heard) next (now answers) ⌝ }
+    ensures { λ r. ⌜ r ≡ going next (r .well) ⌝ }
+{
+    go_on(next, write(answers))
+}
+
 // A piece of the input is answered, a buffer full at a time.
 fn answer(j: Journal, piece: &[u8], out: &mut [u8]) -> Went
     requires { ⌜ Goes j ⌝ }
     requires { ⌜ 80 ≤ length (now out) ⌝ }
-    ensures { λ r. ⌜ Goes (r .journal) ⌝ }
+    ensures { λ r. ⌜ Heard j (now (piece .entry)) r ⌝ }
 {
-    let mut journal = j;
+    let mut went = go_on(j, true);
     let mut at: usize = 0;
     while at < piece.len() {
-        let r = feed(journal, &piece[at..], out);
-        journal = r.journal;
-        at += r.used;
+        let r = feed(went.journal, &piece[at..], out);
+        let to = at + r.used;
         let n = r.put;
-        if !put(&out[..n]) {
-            return Went {
-                journal,
-                more: false,
-                well: false,
-            };
+        went = put(went, &piece[at..to], r.journal, &out[..n]);
+        if !went.well {
+            return went;
         }
+        at = to;
     }
-    Went {
-        journal,
-        more: true,
-        well: true,
-    }
+    went
 }
 
-// Reads once, and answers what came.
-fn read_some(j: Journal, piece: &mut [u8], out: &mut [u8]) -> Went
+// The bytes at the front of a buffer are answered.
+fn answer_front(j: Journal, n: usize, buffer: &[u8], out: &mut [u8]) -> Went
     requires { ⌜ Goes j ⌝ }
+    requires { ⌜ Counts n (now buffer) ⌝ }
     requires { ⌜ 80 ≤ length (now out) ⌝ }
-    ensures { λ r. ⌜ Goes (r .journal) ⌝ }
+    ensures { λ r. ⌜ Heard j (take n (now (buffer .entry))) r ⌝ }
 {
-    let got = libc::read(STDIN_FILENO, piece);
+    answer(j, &buffer[..n], out)
+}
+
+// What a read answered: it failed, the input is at its end, or so many bytes stand at the front of the buffer.
+fn take(j: Journal, got: isize, buffer: &[u8], out: &mut [u8]) -> Went
+    requires { ⌜ Goes j ⌝ }
+    requires { ⌜ Moved (length (now buffer)) got ⌝ }
+    requires { ⌜ 80 ≤ length (now out) ⌝ }
+    ensures { λ r. ⌜ Took j got (now (buffer .entry)) r ⌝ }
+{
     if got < 0 {
         os::fail(b"journal: cannot read from standard input");
         return Went {
@@ -75,22 +114,33 @@ fn read_some(j: Journal, piece: &mut [u8], out: &mut [u8]) -> Went
             well: true,
         };
     }
-    let n = io::count(got, piece);
-    answer(j, &piece[..n], out)
+    answer_front(j, io::count(got, buffer), buffer, out)
 }
 
-// Reads and answers until there is no more. A proved loop has to end, and nothing says that an input does: the loop counts its turns
-// down, from a number that no run uses up.
-fn run(j: Journal, piece: &mut [u8], out: &mut [u8]) -> Went
+// Reads once, and answers what came. Where no line may be read any more, nothing is read.
+fn read_some(j: Journal, buffer: &mut [u8], out: &mut [u8]) -> Went
     requires { ⌜ Goes j ⌝ }
+    requires { ⌜ 0 < j .left ⌝ }
     requires { ⌜ 80 ≤ length (now out) ⌝ }
-    ensures { λ r. ⌜ Goes (r .journal) ⌝ }
+    ensures { λ r. ⌜ Read j (now (buffer .exit)) r ⌝ }
+{
+    let got = libc::read(STDIN_FILENO, buffer);
+    take(j, got, buffer, out)
+}
+
+// Reads and answers until there is no more. A proved loop has to end, and nothing says that an input does: the loop
+// counts its turns down, from a number that no run uses up.
+fn run(j: Journal, buffer: &mut [u8], out: &mut [u8]) -> Went
+    requires { ⌜ Goes j ⌝ }
+    requires { ⌜ 0 < j .left ⌝ }
+    requires { ⌜ 80 ≤ length (now out) ⌝ }
+    ensures { λ r. ⌜ Reads j r ⌝ }
 {
     let mut journal = j;
     let mut turns = u64::MAX;
     while turns > 0 {
         turns -= 1;
-        let w = read_some(journal, piece, out);
+        let w = read_some(journal, buffer, out);
         journal = w.journal;
         if !w.more {
             return w;
@@ -103,21 +153,45 @@ fn run(j: Journal, piece: &mut [u8], out: &mut [u8]) -> Went
     }
 }
 
-// The end of the input: a last line without its newline is answered.
-fn close(j: Journal, out: &mut [u8])
-    requires { ⌜ Goes j ⌝ }
-    requires { ⌜ 80 ≤ length (now out) ⌝ }
+// Writes what there is at the end, after answers that all were written. `was` stands here for what is asked.
+fn put_last(was: Went, answers: &[u8]) -> bool
+    requires { ⌜ was .well ≡ true ⌝ }
+    requires { ⌜ now answers ≡ end (viewed (was .journal)) ⌝ }
 {
-    let n = end(j, out);
-    put(&out[..n]);
+    write(answers)
+}
+
+// The end of the input: a last line without its newline is answered.
+fn close(w: Went, out: &mut [u8]) -> Went
+    requires { ⌜ Goes (w .journal) ⌝ }
+    requires { ⌜ w .well ≡ true ⌝ }
+    requires { ⌜ 80 ≤ length (now out) ⌝ }
+    ensures { λ r. ⌜ Closes w (now (out .entry)) (now (out .exit)) r ⌝ }
+{
+    let journal = w.journal;
+    let n = end(journal, out);
+    let well = put_last(w, &out[..n]);
+    Went {
+        journal,
+        more: false,
+        well,
+    }
+}
+
+// All of it, from a fresh journal to the end of the input.
+fn serve(buffer: &mut [u8], out: &mut [u8]) -> Went
+    requires { ⌜ 80 ≤ length (now out) ⌝ }
+    ensures { λ r. ⌜ Serves (now (out .exit)) r ⌝ }
+{
+    let w = run(start(), buffer, out);
+    if w.well {
+        return close(w, out);
+    }
+    w
 }
 
 fn main() {
-    let mut piece = io::large_buffer();
+    let mut buffer = io::large_buffer();
     let mut out = io::large_buffer();
-    let w = run(start(), &mut piece, &mut out);
-    if w.well {
-        let j = w.journal;
-        close(j, &mut out);
-    }
+    serve(&mut buffer, &mut out);
 }

@@ -16,8 +16,6 @@ use Rattle.bank_model.specs.Model.{Hyp, Bank}
 use Rattle.bank_model.specs.Steps.{Taken, freshBank, on, formerly, exchanged, observed, untaken, takenAt, takenOf, takeSwitch}
 use Rattle.station_model.specs.declared.Event.{Event}
 use Rattle.station_model.specs.declared.Event.the-variants.{Mark, Gap, Finish, Seed, Hint, Clear, Switch}
-use Rattle.station_model.specs.declared.Code.{Code}
-use Rattle.station_model.specs.declared.Code.the-variants.{Switched, Nothing, Refused}
 use Rattle.station_model.specs.Station.{Station, Act, taken, ready, ind, switchAct, acted, accepted, refusal, outcome, step}
 use Rattle.station_model.specs.Watch.{Call, callOn, serialOf, named, due, Moved, Ruled, SerialRule}
 use Rattle.station_model.proofs.Lists.{by-cond, no, in-at}
@@ -57,10 +55,10 @@ module _ (k : Settings) (calls : List Call) (s : Station) (width : ℕ) (switchi
   Right t = Ruled (due k width switching calls) (recorded s Switch (switchAct t))
 
   right-untaken : (b : Bank) → due k width switching calls ≡ none → Right (untaken b (s .primary) (s .serial))
-  right-untaken b e = subst (λ (o : Option ℕ). Ruled o (recorded s Switch (switchAct (untaken b (s .primary) (s .serial))))) (sym e) (refl, refl)
+  right-untaken b e = subst (λ (o : Option ℕ). Ruled o (recorded s Switch (switchAct (untaken b (s .primary) (s .serial))))) (sym e) ((refl, refl), refl)
 
   right-moved : (i : ℕ) (c : Hyp) → getElem? (s .bank .challengers) i ≡ some c → due k width switching calls ≡ some (c .serial) → Right (exchanged (s .bank) (s .primary) (s .serial) i c)
-  right-moved i c f e = subst (λ (o : Option ℕ). Ruled o (recorded s Switch (switchAct (exchanged (s .bank) (s .primary) (s .serial) i c)))) (sym e) (refl, moved)
+  right-moved i c f e = subst (λ (o : Option ℕ). Ruled o (recorded s Switch (switchAct (exchanged (s .bank) (s .primary) (s .serial) i c)))) (sym e) ((refl, refl), moved)
     where
       mem : List·Memᴰ c (s .bank .challengers)
       mem = in-at (s .bank .challengers) i c f
@@ -113,7 +111,7 @@ module _ (k : Settings) (calls : List Call) (s : Station) (width : ℕ) (switchi
   Kept e a = SerialRule (recorded s e a) []
 
   ruled-serial : (o : Option ℕ) (c : Call) → c .event ≡ Switch → Ruled o c → SerialRule c []
-  ruled-serial none c e r = (λ n. absurd (n (r .1)), λ z. no (let q : _≡_ {A = Code} Nothing Switched = sym (r .0) ∙ z .1 in cc))
+  ruled-serial none c e r = (λ n. absurd (n (r .1)), λ z. absurd (let q : _≡_ {A = ℕ} 3 2 = sym (r .0 .1) ∙ z .1 .1 in omega arith))
   ruled-serial (some k) c e r = (λ n. (e, r .0), λ z y. r .1 .other (sym (r .1 .serial) ∙ y))
 
   -- an event that is no switch
@@ -134,7 +132,7 @@ module _ (k : Settings) (calls : List Call) (s : Station) (width : ℕ) (switchi
 
   kept-outcome : (e : Event) (r : ℕ) → SerialRule (record { event = e; answer = outcome k s e r .answer; before = s; after = outcome k s e r .station }) []
   kept-outcome e zero = kept-acted e
-  kept-outcome e (suc n) = (λ y. absurd (y refl), λ z. no (let q : Refused (suc n) ≡ Switched = z .1 in cc))
+  kept-outcome e (suc n) = (λ y. absurd (y refl), λ z. no (sym (z .1 .0)))
 
   pub kept-step : (e : Event) → SerialRule (callOn k s e) []
   unfolding step

@@ -14,7 +14,8 @@ use Rattle.bank_model.specs.declared.Cause.the-variants.{Twin, Outscored, Aged,
 use Rattle.bank_model.specs.declared.Departure.{Departure}
 use Rattle.bank_model.specs.Steps.{freshBank}
 use Rattle.station_model.specs.declared.Event.{Event}
-use Rattle.station_model.specs.Station.{Station, Answer, taken, fresh, ind, isCause, ofCause, step}
+use Rattle.station_model.specs.declared.Code.{Code}
+use Rattle.station_model.specs.Station.{Station, Answer, number, taken, says, fresh, ind, isCause, ofCause, step}
 use Rattle.station_model.specs.Watch.{Call, eventOf, Carries, AllCarry, stationAfter, answerTo, callOn, callsOf, Each, SameAnswer, AsDefined, gone, departures, countsOf, due, Moved, Ruled, SwitchRule, SerialRule, Watch, Promised, Ran, RanFrom, Stepped, Settled}
 use Rattle.station_model.proofs.Books.{gone-append, cause-append, by-cause, ind-true, ind-false}
 use Rattle.station_model.proofs.Ledger.{Books, books-spare, booked}
@@ -75,15 +76,18 @@ module _ (k : Settings) where
 
   -- ---- a rule of the definitions' call is one of the program's
 
+  says-of : (n : ℕ) {a b : Code} → a ≡ b → says n b → says n a
+  says-of n e s = (ap taken e ∙ s .0, ap number e ∙ s .1)
+
   serial-of : (c : Call) (s : Station) → c .before ≡ s → c .after ≡ step k s (c .event) .station → c .answer .code ≡ step k s (c .event) .answer .code → SerialRule (callOn k s (c .event)) [] → SerialRule c []
   serial-of c s p q r z = (
-    λ n. let w = z .0 (λ y. n (ap (λ (t : Station). t .serial) q ∙ y ∙ ap (λ (t : Station). t .serial) (sym p))) in (w .0, r ∙ w .1),
-    λ w y. z .1 (w .0, sym r ∙ w .1) (ap (λ (t : Station). t .serial) (sym q) ∙ y ∙ ap (λ (t : Station). t .serial) p),
+    λ n. let w = z .0 (λ y. n (ap (λ (t : Station). t .serial) q ∙ y ∙ ap (λ (t : Station). t .serial) (sym p))) in (w .0, says-of 2 r (w .1)),
+    λ w y. z .1 (w .0, says-of 2 (sym r) (w .1)) (ap (λ (t : Station). t .serial) (sym q) ∙ y ∙ ap (λ (t : Station). t .serial) p),
   )
 
   ruled-of : (c : Call) (s : Station) (o : Option ℕ) → c .before ≡ s → c .after ≡ step k s (c .event) .station → c .answer .code ≡ step k s (c .event) .answer .code → Ruled o (callOn k s (c .event)) → Ruled o c
-  ruled-of c s none p q r z = (r ∙ z .0, ap (λ (t : Station). t .serial) q ∙ z .1 ∙ ap (λ (t : Station). t .serial) (sym p))
-  ruled-of c s (some n) p q r z = (r ∙ z .0, subst (λ (t : Station). Moved n t (c .after)) (sym p) (subst (λ (t : Station). Moved n s t) (sym q) (z .1)))
+  ruled-of c s none p q r z = (says-of 3 r (z .0), ap (λ (t : Station). t .serial) q ∙ z .1 ∙ ap (λ (t : Station). t .serial) (sym p))
+  ruled-of c s (some n) p q r z = (says-of 2 r (z .0), subst (λ (t : Station). Moved n t (c .after)) (sym p) (subst (λ (t : Station). Moved n s t) (sym q) (z .1)))
 
   -- ---- the definitions' own calls are such a list, for every list of events
 

@@ -10,8 +10,7 @@ use Rattle.ranges.specs.Settings.{standard}
 use Rattle.bank_model.specs.Model.{Hyp}
 use Rattle.station_model.specs.declared.Event.{Event}
 use Rattle.station_model.specs.declared.Event.the-variants.{Mark, Gap, Finish, Seed, Clear, Switch}
-use Rattle.station_model.specs.declared.Code.the-variants.{Refused}
-use Rattle.station_model.specs.Station.{Station, number, fresh}
+use Rattle.station_model.specs.Station.{Station, says, refuses, fresh}
 use Rattle.station_model.specs.Watch.{stationAfter, answerTo, callsOf, due}
 
 -- a whole number as f32
@@ -43,7 +42,7 @@ Holds x =
     let start = fresh (x .width) (x .switching) in
     (map lead (stationAfter standard start (x .earlier) .bank .challengers) ≡ x .leads)
     × (due standard (x .width) (x .switching) (callsOf standard start (x .earlier)) ≡ x .names)
-    × (number (answerTo standard start Switch (x .earlier) .code) ≡ x .code)
+    × says (x .code) (answerTo standard start Switch (x .earlier) .code)
     × (stationAfter standard start (Switch ∷ x .earlier) .serial ≡ x .serial)
 
 unfoldable pub AllHold : List Example → Type 0
@@ -89,10 +88,10 @@ marks = mark 150 ∷ mark 50 ∷ []
 
 -- the codes of the four lines, and the station after them
 pub record Printed : Type 0 where
-  pub first : number (answerTo standard start (mark 50) [] .code) ≡ 0
-  pub second : number (answerTo standard start (mark 150) (mark 50 ∷ []) .code) ≡ 0
-  pub finish : number (answerTo standard start Finish marks .code) ≡ 1
-  pub switch : number (answerTo standard start Switch (Finish ∷ marks) .code) ≡ 3
+  pub first : says 0 (answerTo standard start (mark 50) [] .code)
+  pub second : says 0 (answerTo standard start (mark 150) (mark 50 ∷ []) .code)
+  pub finish : says 1 (answerTo standard start Finish marks .code)
+  pub switch : says 3 (answerTo standard start Switch (Finish ∷ marks) .code)
   pub dit : stationAfter standard start (Switch ∷ Finish ∷ marks) .primary .pair .lo ≡ ofBits binary32 0x4248_0000
   pub dah : stationAfter standard start (Switch ∷ Finish ∷ marks) .primary .pair .hi ≡ ofBits binary32 0x4316_0000
   pub serial : stationAfter standard start (Switch ∷ Finish ∷ marks) .serial ≡ 0
@@ -102,12 +101,12 @@ pub record Printed : Type 0 where
 
 pub record Answers : Type 0 where
   -- refusals come before the event's meaning
-  pub endless : answerTo standard start (Mark (inf false) true) [] .code ≡ Refused 5
-  pub empty : answerTo standard start (Gap (whole 0)) [] .code ≡ Refused 6
-  pub longest : answerTo standard start (Gap (whole 262145)) [] .code ≡ Refused 7
-  pub still : answerTo standard start (Seed (whole 0)) [] .code ≡ Refused 8
+  pub endless : refuses 5 (answerTo standard start (Mark (inf false) true) [] .code)
+  pub empty : refuses 6 (answerTo standard start (Gap (whole 0)) [] .code)
+  pub longest : refuses 7 (answerTo standard start (Gap (whole 262145)) [] .code)
+  pub still : refuses 8 (answerTo standard start (Seed (whole 0)) [] .code)
   -- a good gap, or a good mark that is not live, does nothing while the primary is unready; it counts
-  pub waits : number (answerTo standard start (Gap (whole 50)) (silent ∷ []) .code) ≡ 0
+  pub waits : says 0 (answerTo standard start (Gap (whole 50)) (silent ∷ []) .code)
   pub counts : stationAfter standard start (Gap (whole 50) ∷ silent ∷ Seed (whole 0) ∷ []) .accepted ≡ 2
   -- "Gap: only with a ready primary": before that the bank counts none, and the primary holds none
   pub unheard : stationAfter standard start (Gap (whole 10) ∷ []) .bank .gaps ≡ 0
@@ -117,9 +116,9 @@ pub record Answers : Type 0 where
   pub element : stationAfter standard start (Gap (whole 39) ∷ Seed (whole 60) ∷ []) .primary .egap ≡ some (whole 39)
   pub longer : stationAfter standard start (Gap (whole 40) ∷ Seed (whole 60) ∷ []) .primary .egap ≡ none
   -- a seed has code 1 only if the primary was unready
-  pub seeds : number (answerTo standard start (Seed (whole 60)) [] .code) ≡ 1
-  pub again : number (answerTo standard start (Seed (whole 60)) (Seed (whole 60) ∷ []) .code) ≡ 0
-  pub unfinished : number (answerTo standard start Finish [] .code) ≡ 3
+  pub seeds : says 1 (answerTo standard start (Seed (whole 60)) [] .code)
+  pub again : says 0 (answerTo standard start (Seed (whole 60)) (Seed (whole 60) ∷ []) .code)
+  pub unfinished : says 3 (answerTo standard start Finish [] .code)
   -- the fifth mark: a rival for the lone dit, with the next serial
-  pub fifth : number (answerTo standard start (mark 150) (mark 150 ∷ mark 150 ∷ mark 150 ∷ mark 50 ∷ []) .code) ≡ 1
+  pub fifth : says 1 (answerTo standard start (mark 150) (mark 150 ∷ mark 150 ∷ mark 150 ∷ mark 50 ∷ []) .code)
   pub begun : stationAfter standard start (mark 150 ∷ mark 150 ∷ mark 150 ∷ mark 150 ∷ mark 50 ∷ []) .bank .started ≡ 1

@@ -1,4 +1,5 @@
 -- What the calls of a station do (document 01, "Station"). Definitions only.
+use mathlib.Core.Path.{_≡_}
 use mathlib.Core.Bool.{Bool, true, false, cond, _||_}
 use mathlib.Core.List.{List, [], _∷_}
 use Prim.Native.Nat.{ℕ, zero, suc, _+_}
@@ -38,6 +39,13 @@ taken BecameReady = true
 taken Switched = true
 taken Nothing = true
 taken (Refused n) = false
+
+-- "switched" is an accepted call with number 2, "nothing to do" one with 3: refusals 1 to 3 share their numbers with codes
+abbrev pub says : ℕ → Code → Type 0
+says n c = (taken c ≡ true) × (number c ≡ n)
+
+abbrev pub refuses : ℕ → Code → Type 0
+refuses n c = (taken c ≡ false) × (number c ≡ n)
 
 -- the causes, in the order in which "Station" lists them
 abbrev pub order : Cause → ℕ

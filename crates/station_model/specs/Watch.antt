@@ -18,9 +18,8 @@ use Rattle.bank_model.specs.Model.{Hyp}
 use Rattle.bank_model.specs.Scores.{ahead, above}
 use Rattle.station_model.specs.declared.Event.{Event}
 use Rattle.station_model.specs.declared.Event.the-variants.{Mark, Gap, Finish, Seed, Hint, Clear, Switch}
-use Rattle.station_model.specs.declared.Code.the-variants.{Switched, Nothing}
 use Rattle.station_model.specs.declared.Counts.{Counts}
-use Rattle.station_model.specs.Station.{Station, Answer, taken, ready, fresh, ind, ofCause, step}
+use Rattle.station_model.specs.Station.{Station, Answer, taken, says, ready, fresh, ind, ofCause, step}
 
 -- one call of a list: what it was given, what it answered, and the station before it and after it
 pub record Call : Type 0 where
@@ -201,9 +200,10 @@ pub record Moved (n : ℕ) (before after : Station) : Type 0 where
   pub other : n ≢ before .serial
   pub former : among (before .serial) (after .bank .challengers) ≡ 1
 
+-- by document 01's numbers: 2 "switched", 3 "nothing to do"
 abbrev pub Ruled : Option ℕ → Call → Type 0
-Ruled none c = (c .answer .code ≡ Nothing) × (c .after .serial ≡ c .before .serial)
-Ruled (some n) c = (c .answer .code ≡ Switched) × Moved n (c .before) (c .after)
+Ruled none c = says 3 (c .answer .code) × (c .after .serial ≡ c .before .serial)
+Ruled (some n) c = says 2 (c .answer .code) × Moved n (c .before) (c .after)
 
 -- an accepted switch call answers and moves as the rule says, from the calls before it as the definitions give them
 abbrev pub SwitchRule : Settings → ℕ → Bool → Call → List Call → Type 0
@@ -212,7 +212,7 @@ SwitchRule k width switching c earlier =
 
 -- a call changed the primary's serial exactly when it was a switch call that answered 'switched'
 abbrev pub SerialRule : Call → List Call → Type 0
-SerialRule c earlier = (c .after .serial ≢ c .before .serial) ↔ ((c .event ≡ Switch) × (c .answer .code ≡ Switched))
+SerialRule c earlier = (c .after .serial ≢ c .before .serial) ↔ ((c .event ≡ Switch) × says 2 (c .answer .code))
 
 -- ---- a ready dit: "the dit centroid of a ready primary or of any challenger"
 

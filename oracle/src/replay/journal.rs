@@ -1,10 +1,14 @@
-//! The journal that the program `journal` is run on by the prover's check: every letter, code and refusal that one journal can reach, and
-//! every way to break a line's form. One journal has one lock and one last line; `examples/more` has the others.
+//! The journal that the program `journal` is run on by the prover's check: every letter, code and refusal that one journal
+//! can reach, every way to break a line's form, and more than the program reads at once. One journal has one lock and one
+//! last line; `examples/more` has the others.
 
 use super::Files;
 use crate::journal::answers;
 use crate::layers::journal::odd::{BAD, NUMBERS, WIDTHS};
 use crate::layers::journal::stream::{Mix, Stream};
+
+/// How many bytes the program reads at once.
+const PIECE: usize = 65_536;
 
 /// A journal that grows by lines with blanks for tabs.
 struct Script(Vec<u8>);
@@ -37,6 +41,23 @@ impl Script {
             self.bytes(&[b"G\t3200".to_vec(), vec![b'0'; filler]].concat());
             self.bytes(&[vec![b'0'; filler], b"G\t3200".to_vec()].concat());
         }
+    }
+
+    /// Bad lines, up to so many bytes in all.
+    fn fill(&mut self, to: usize) {
+        while self.0.len() < to {
+            let room = to - self.0.len() - 1;
+            self.bytes(&vec![b'X'; room.min(30_000)]);
+        }
+    }
+
+    /// A line with one end of a piece in it, so many bytes after its start, and events on both sides.
+    fn across(&mut self, end: usize, after: usize, line: &str) {
+        let before = ["M 3200 1", "G 3200"];
+        let bytes: usize = before.iter().map(|l| l.len() + 1).sum();
+        self.fill(end * PIECE - after - bytes);
+        self.all(&before);
+        self.all(&[line, "M 9600 1", "G 3200", "M 3200 1", "F", "X"]);
     }
 
     /// Every number about a border, in every line that has one.
@@ -93,6 +114,12 @@ fn script(seed: u64) -> Vec<u8> {
     s.keyed(seed, 60);
     s.bad();
     s.long();
+    // an end of a piece within a mark, between two lines, and within a line that is too long
+    s.across(1, 4, "M 9600 1");
+    s.keyed(seed + 1, 20);
+    s.across(2, 0, "M 9600 1");
+    s.keyed(seed + 2, 20);
+    s.across(3, 90, &"X".repeat(200));
     s.all(&["S 24", "M 3200 1", "X"]);
     // without a newline
     s.0.extend_from_slice(b"M\t3200\t1");
@@ -120,6 +147,26 @@ mod tests {
         let f = files();
         assert!(f.stdin == include_bytes!("../../../crates/journal/stdin"));
         assert!(f.stdout == include_str!("../../../crates/journal/stdout"));
+    }
+
+    /// Each end of a piece is one that must be crossed: the station is a good one before and after, and a program that began
+    /// anew there would answer something else.
+    #[test]
+    fn pieces_hang_together() {
+        let stdin = files().stdin;
+        let pieces: Vec<&[u8]> = stdin.chunks(PIECE).collect();
+        assert_eq!(pieces.len(), 4);
+        for end in 1..pieces.len() {
+            let (before, after) = stdin.split_at(end * PIECE);
+            let whole = answers(&stdin);
+            let apart = [answers(before), answers(after)].concat();
+            assert!(whole != apart, "end of piece {end}");
+            // the first line that ends after it, and the last before it
+            let lines = before.iter().filter(|&&b| b == b'\n').count();
+            let shown: Vec<&[u8]> = whole.split(|&b| b == b'\n').collect();
+            assert!(shown[lines - 1].starts_with(b"G\t0\t"));
+            assert!(shown[lines + 1].starts_with(b"M\t0\t"));
+        }
     }
 
     /// The branches that no journal among these reaches.

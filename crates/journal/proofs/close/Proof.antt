@@ -2,21 +2,31 @@
 use mathlib.Core.Path.{sym}
 use borrow.Author.Needs.{needs}
 use lib.Seq.{length-take-le}
-use Rattle.journal.proofs.Serving.{end-room}
+use Rattle.journal.proofs.Ending.{end-answers, end-room}
 use Rattle.journal.proofs.close.Statement.{statement}
 use Rattle.journal.proofs.close.Tie as tie
 
 end-requires : tie.Need-end-requires
 end-requires c κs = search needs
 
-slice-reshare-prefix-put : tie.Need-slice-reshare-prefix-put
-slice-reshare-prefix-put c = end-room (c .before .before .before .before .before .args .j) _ (c .before .before .before .before .before .args .out .now) _ (c .before .before .end .ensures) (c .before .before .end .kept .1 .0)
+slice-reshare-prefix-put-last : tie.Need-slice-reshare-prefix-put-last
+slice-reshare-prefix-put-last c =
+    let e = c .before .before in
+    let s = e .before .before .before .before in
+    end-room (s .args .w .journal) _ (s .args .out .now) _ (e .end .ensures) (e .end .kept .1 .0)
 
-slice-aggregate-put : tie.Need-slice-aggregate-put
-slice-aggregate-put c = sym (length-take-le _ _ (end-room (c .before .before .before .before .before .before .args .j) _ (c .before .before .before .before .before .before .args .out .now) _ (c .before .before .before .end .ensures) (c .before .before .before .end .kept .1 .0)))
+slice-aggregate-put-last : tie.Need-slice-aggregate-put-last
+slice-aggregate-put-last c =
+    let e = c .before .before .before in
+    let s = e .before .before .before .before in
+    let room = end-room (s .args .w .journal) _ (s .args .out .now) _ (e .end .ensures) (e .end .kept .1 .0) in
+    sym (length-take-le _ _ room)
 
-put-requires : tie.Need-put-requires
-put-requires c κs = search needs
+put-last-requires : tie.Need-put-last-requires
+put-last-requires c κs =
+    let e = c .before .before .before in
+    let s = e .before .before .before .before in
+    (s .pre .1 .0, end-answers (s .args .w .journal) _ (s .args .out .now) _ (e .end .ensures) (e .end .kept .1 .0))
 
 same-length : tie.Need-same-length
 same-length c = search needs
@@ -29,8 +39,8 @@ close-spec =
     tie.close
     (tie.spec
     end-requires
-    slice-reshare-prefix-put
-    slice-aggregate-put
-    put-requires
+    slice-reshare-prefix-put-last
+    slice-aggregate-put-last
+    put-last-requires
     same-length
     returns)
