@@ -232,10 +232,11 @@ abbrev pub sender-reading : SenderReading
 sender-reading = record {
   code = 1;
   «has_ratio» = 2;
-  «pad_has_ratio» = bytes 2 3;
-  «dit_ms» = float 4;
-  ratio = float 5;
-  «word_dits» = float 6;
+  «has_word» = 3;
+  «pad_has_word» = bytes 1 4;
+  «dit_ms» = float 5;
+  ratio = float 6;
+  «word_dits» = float 7;
   dot = stats;
   dash = stats;
   «element_gap» = stats;

@@ -89,13 +89,14 @@ number-or f none h = refl
 number-or f (some x) h = h x
 
 -- a reading, number by number
-pub reading-made : (dit : Float) (t : Timing) (q l : Answer) (n : ℕ) (r w : Float) (a b c d e : ClassStats) → q ≡ ratioSaid t → l ≡ wordSaid t
-    → n ≡ saidIn q → r ≡ numberIn q → w ≡ numberIn l → a ≡ plainClass (t .dot) → b ≡ plainClass (t .dash)
+pub reading-made : (dit : Float) (t : Timing) (q l : Answer) (n k : ℕ) (r w : Float) (a b c d e : ClassStats) → q ≡ ratioSaid t → l ≡ wordSaid t
+    → n ≡ saidIn q → k ≡ saidIn l → r ≡ numberIn q → w ≡ numberIn l → a ≡ plainClass (t .dot) → b ≡ plainClass (t .dash)
     → c ≡ plainClass (t .elementGap) → d ≡ plainClass (t .charGap) → e ≡ plainClass (t .wordGap)
     → record {
       code = 0;
       «has_ratio» = n;
-      «pad_has_ratio» = zeros 2;
+      «has_word» = k;
+      «pad_has_word» = zeros 1;
       «dit_ms» = dit;
       ratio = r;
       «word_dits» = w;
@@ -105,16 +106,17 @@ pub reading-made : (dit : Float) (t : Timing) (q l : Answer) (n : ℕ) (r w : Fl
       «char_gap» = d;
       «word_gap» = e;
     } ≡ readingOf dit t
-reading-made dit t q l n r w a b c d e is long has-is ratio-is word-is h1 h2 h3 h4 h5 =
+reading-made dit t q l n k r w a b c d e is long has-is has-word ratio-is word-is h1 h2 h3 h4 h5 =
     let o = Steps.ratio (t .dot) (t .dash) in
     let v = Steps.wordDits (t .charGap) (t .wordGap) in
     λ i. record {
       code = 0;
       «has_ratio» = (has-is ∙ ap saidIn is ∙ said-has ratio o (λ x. refl)) i;
-      «pad_has_ratio» = zeros 2;
+      «has_word» = (has-word ∙ ap saidIn long ∙ said-has inDits v (λ x. refl)) i;
+      «pad_has_word» = zeros 1;
       «dit_ms» = dit;
       ratio = (ratio-is ∙ ap numberIn is ∙ number-or ratio o (λ x. refl)) i;
-      «word_dits» = (word-is ∙ ap numberIn long ∙ number-or length v (λ x. refl)) i;
+      «word_dits» = (word-is ∙ ap numberIn long ∙ number-or inDits v (λ x. refl)) i;
       dot = h1 i;
       dash = h2 i;
       «element_gap» = h3 i;

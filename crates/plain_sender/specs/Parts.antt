@@ -4,7 +4,7 @@ use Prim.Native.Nat.{ℕ}
 use lib.Ieee.{Float}
 use Rattle.ranges.specs.Limits.{nought}
 use Rattle.sender.specs.declared.TimingClass.{TimingClass}
-use Rattle.sender.specs.Answers.{Answer, done, flag, length, ratio, absent, report, refused}
+use Rattle.sender.specs.Answers.{Answer, done, flag, inDits, ratio, absent, report, refused}
 use Rattle.plain_sender.specs.declared.Named.{Named}
 use Rattle.plain_sender.specs.declared.Named.the-variants as N
 
@@ -16,7 +16,7 @@ ofNamed N.Unknown = none
 abbrev pub refusalIn : Answer → ℕ
 refusalIn done = 0
 refusalIn (flag b) = 0
-refusalIn (length x) = 0
+refusalIn (inDits x) = 0
 refusalIn (ratio x) = 0
 refusalIn absent = 0
 refusalIn (report d t) = 0
@@ -26,7 +26,7 @@ refusalIn (refused n) = n
 abbrev pub saidIn : Answer → ℕ
 saidIn done = 0
 saidIn (flag b) = 0
-saidIn (length x) = 1
+saidIn (inDits x) = 1
 saidIn (ratio x) = 1
 saidIn absent = 0
 saidIn (report d t) = 0
@@ -35,7 +35,7 @@ saidIn (refused n) = 0
 abbrev pub numberIn : Answer → Float
 numberIn done = nought
 numberIn (flag b) = nought
-numberIn (length x) = x
+numberIn (inDits x) = x
 numberIn (ratio x) = x
 numberIn absent = nought
 numberIn (report d t) = nought

@@ -69,7 +69,8 @@ abbrev pub readingOf : Float → Timing → SenderReading
 readingOf dit t = record {
   code = 0;
   «has_ratio» = has (ratio (t .dot) (t .dash));
-  «pad_has_ratio» = zeros 2;
+  «has_word» = has (wordDits (t .charGap) (t .wordGap));
+  «pad_has_word» = zeros 1;
   «dit_ms» = dit;
   ratio = orNought (ratio (t .dot) (t .dash));
   «word_dits» = orNought (wordDits (t .charGap) (t .wordGap));
@@ -85,7 +86,8 @@ abbrev pub noReading : SenderReading
 noReading = record {
   code = 129;
   «has_ratio» = 0;
-  «pad_has_ratio» = zeros 2;
+  «has_word» = 0;
+  «pad_has_word» = zeros 1;
   «dit_ms» = nought;
   ratio = nought;
   «word_dits» = nought;

@@ -41,7 +41,8 @@ pub struct SenderObserved {
 pub struct SenderReading {
     pub code: u8,
     pub has_ratio: u8,
-    pub pad_has_ratio: [u8; 2],
+    pub has_word: u8,
+    pub pad_has_word: [u8; 1],
     pub dit_ms: f32,
     pub ratio: f32,
     pub word_dits: f32,
@@ -136,7 +137,17 @@ pub(crate) fn ratio_or(q: Ratio) -> f32
     }
 }
 
-// A length, or 0.
+// Whether there is a length, and the length; 0 where there is none.
+pub(crate) fn has_length(l: Length) -> u8
+    ensures { λ r. ⌜ r ≡ saidIn (ofLength l) ⌝ }
+{
+    match l {
+        Length::Is(_) => 1,
+        Length::Absent => 0,
+        Length::Refused(_) => 0,
+    }
+}
+
 pub(crate) fn length_or(l: Length) -> f32
     ensures { λ r. ⌜ r ≡ numberIn (ofLength l) ⌝ }
 {
@@ -176,7 +187,8 @@ pub(crate) fn read_of(t: SenderTiming, dit_ms: f32) -> SenderReading
     SenderReading {
         code: 0,
         has_ratio: has_ratio(q),
-        pad_has_ratio: [0; 2],
+        has_word: has_length(w),
+        pad_has_word: [0; 1],
         dit_ms,
         ratio: ratio_or(q),
         word_dits: length_or(w),
@@ -200,7 +212,8 @@ pub(crate) fn no_reading() -> SenderReading
     SenderReading {
         code: 129,
         has_ratio: 0,
-        pad_has_ratio: [0; 2],
+        has_word: 0,
+        pad_has_word: [0; 1],
         dit_ms: 0.0,
         ratio: 0.0,
         word_dits: 0.0,

@@ -14,6 +14,9 @@ sender-word-dits-requires c κs = search needs
 has-ratio-requires : tie.Need-has-ratio-requires
 has-ratio-requires c κs = search needs
 
+has-length-requires : tie.Need-has-length-requires
+has-length-requires c κs = search needs
+
 ratio-or-requires : tie.Need-ratio-or-requires
 ratio-or-requires c κs = search needs
 
@@ -40,11 +43,13 @@ returns c =
     let stats = c .before .before .before .before in
     let w = stats .before in
     let q = w .before in
-    let h = q .before in
+    let hw = q .before in
+    let h = hw .before in
     let word = h .before .before .before .before .before .before in
     let ratio = word .before in
-    reading-made (ratio .before .args .dit-ms) (view (ratio .before .args .t)) _ _ _ _ _ _ _ _ _ _
-    (ratio .dash-dot-ratio .ensures) (word .sender-word-dits .ensures) (h .has-ratio .ensures) (q .ratio-or .ensures) (w .length-or .ensures)
+    reading-made (ratio .before .args .dit-ms) (view (ratio .before .args .t)) _ _ _ _ _ _ _ _ _ _ _
+    (ratio .dash-dot-ratio .ensures) (word .sender-word-dits .ensures) (h .has-ratio .ensures) (hw .has-length .ensures)
+    (q .ratio-or .ensures) (w .length-or .ensures)
     (stats .stats-of .ensures) (c .before .before .before .stats-of2 .ensures) (c .before .before .stats-of3 .ensures) (c .before .stats-of4 .ensures) (c .stats-of5 .ensures)
 
 pub read-of-spec : {M : Type 1} → statement M
@@ -54,6 +59,7 @@ read-of-spec =
     dash-dot-ratio-requires
     sender-word-dits-requires
     has-ratio-requires
+    has-length-requires
     ratio-or-requires
     length-or-requires
     stats-of-requires
