@@ -562,6 +562,7 @@ fn events(marks: &[f32], gaps: &[f32]) -> Vec<crate::hullathan::station::Event> 
         kind,
         live: 1,
         value,
+        ..Event::default()
     };
     let three = |(&m, &g)| [event(MARK, m), event(GAP, g), event(SWITCH, 0.0)];
     marks.iter().zip(gaps).flat_map(three).collect()

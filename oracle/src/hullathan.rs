@@ -265,7 +265,7 @@ pub mod sender {
     }
 }
 
-/// The speed tracker, as C has it.
+/// The speed tracker, as C has it. What stands in a pad is no part of a tracker; one by value has nothing there.
 pub mod tracker {
     use super::Bit;
 
@@ -275,6 +275,7 @@ pub mod tracker {
     pub struct RingEntry {
         pub dur_ms: f32,
         pub assigned_dit: Bit,
+        pub pad_assigned_dit: [u8; 3],
         pub pre_lo: f32,
         pub pre_hi: f32,
     }
@@ -289,6 +290,7 @@ pub mod tracker {
         pub ready: Bit,
         pub confirmed: Bit,
         pub placeholder_is_lo: Bit,
+        pub pad_placeholder_is_lo: [u8; 5],
         pub lo_n: usize,
     }
 
@@ -299,16 +301,21 @@ pub mod tracker {
         pub ring: [RingEntry; 12],
         pub ring_len: usize,
         pub has_wpm: Bit,
+        pub pad_has_wpm: [u8; 3],
         pub wpm_ema: f32,
         pub recent: [f32; 5],
+        pub pad_recent: [u8; 4],
         pub recent_len: usize,
         pub has_egap: Bit,
+        pub pad_has_egap: [u8; 3],
         pub mu_egap_ms: f32,
         pub has_hint: Bit,
+        pub pad_has_hint: [u8; 3],
         pub ratio_hint: f32,
         pub regime: u32,
         pub badlock_recovered: Bit,
         pub lo_uncorroborated: Bit,
+        pub pad_lo_uncorroborated: [u8; 2],
     }
 
     #[repr(C)]

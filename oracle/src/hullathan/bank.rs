@@ -13,10 +13,13 @@ pub struct Hypothesis {
     pub lead_marks: u32,
     pub age_marks: u32,
     pub origin: u8,
+    pub pad_origin: [u8; 3],
     pub retain_marks: u32,
     pub reported: Bit,
+    pub pad_reported: [u8; 3],
     pub ln_lo: f32,
     pub ln_hi: f32,
+    pub pad_ln_hi: [u8; 4],
     pub serial: u64,
 }
 
@@ -28,6 +31,7 @@ pub struct Record {
     pub from_dit_ms: f32,
     pub to_dit_ms: f32,
     pub applied: Bit,
+    pub pad_applied: [u8; 7],
 }
 
 #[repr(C)]
@@ -35,8 +39,10 @@ pub struct Record {
 pub struct Bank {
     pub width: usize,
     pub switching: Bit,
+    pub pad_switching: [u8; 3],
     pub primary_score: f32,
     pub primary_gap_score: f32,
+    pub pad_primary_gap_score: [u8; 4],
     pub challengers: [Hypothesis; 8],
     pub challengers_len: usize,
     pub streak: [f32; 4],
@@ -46,10 +52,12 @@ pub struct Bank {
     pub has_side: Bit,
     pub streak_side: Bit,
     pub has_last_gap: Bit,
+    pub pad_has_last_gap: [u8; 1],
     pub last_gap: f32,
     pub marks_seen: u64,
     pub gaps_seen: u64,
     pub has_pending: Bit,
+    pub pad_has_pending: [u8; 7],
     pub pending: usize,
     pub log: [Record; 16],
     pub log_len: usize,
@@ -62,14 +70,18 @@ pub struct Bank {
 pub struct Departure {
     pub serial: u64,
     pub cause: u8,
+    pub pad_cause: [u8; 7],
 }
+
+/// The most that leave in one call.
+pub const LEFT: usize = 7;
 
 #[repr(C)]
 #[derive(Debug, Clone, Copy)]
 pub struct Answered {
     pub code: u8,
     pub bank: Bank,
-    pub left: [Departure; 9],
+    pub left: [Departure; LEFT],
     pub left_len: usize,
 }
 
@@ -128,7 +140,7 @@ pub struct Lent {
 #[derive(Debug, Clone, Copy)]
 pub struct Changed {
     pub bank: Bank,
-    pub left: [Departure; 9],
+    pub left: [Departure; LEFT],
     pub left_len: usize,
 }
 
@@ -296,7 +308,7 @@ mod tests {
         assert_eq!(size_of::<Departure>(), 16);
         assert_eq!(
             (size_of::<Answered>(), offset_of!(Answered, left)),
-            (3816, 3664)
+            (3784, 3664)
         );
     }
 

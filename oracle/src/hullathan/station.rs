@@ -1,7 +1,7 @@
 //! The station in the host's own memory, as `rt staticlib hullathan` has it for C and Rust: an event by its kind, 0 mark, 1 gap, 2 finish,
 //! 3 seed, 4 hint, 5 clear, 6 switch. A code is one byte: 0 done, 1 became ready, 2 switched, 3 nothing to do; refused: 128 and the number.
 
-use super::bank::{Bank, Departure};
+use super::bank::{Bank, Departure, Record, LEFT};
 use super::tracker::SpeedTracker;
 use super::Bit;
 
@@ -21,11 +21,13 @@ pub struct Station {
 #[derive(Debug, Clone, Copy, Default)]
 pub struct Answer {
     pub code: u8,
+    pub pad_code: [u8; 3],
     pub dit_ms: f32,
     pub dah_ms: f32,
+    pub pad_dah_ms: [u8; 4],
     pub serial: u64,
     pub challengers: usize,
-    pub left: [Departure; 9],
+    pub left: [Departure; LEFT],
     pub left_len: usize,
 }
 
@@ -35,6 +37,7 @@ pub struct Answer {
 pub struct Event {
     pub kind: u8,
     pub live: u8,
+    pub pad_live: [u8; 2],
     pub value: f32,
 }
 
@@ -67,6 +70,7 @@ pub struct Reading {
     pub ready: Bit,
     pub has_wpm: Bit,
     pub switching: Bit,
+    pub pad_switching: [u8; 4],
     pub width: usize,
     pub dit_ms: f32,
     pub dah_ms: f32,
@@ -82,6 +86,9 @@ pub struct Reading {
     pub counts: [u64; 5],
     pub challengers: usize,
     pub rivals: [Rival; 8],
+    /// The switches, the oldest first.
+    pub log_len: usize,
+    pub log: [Record; 16],
 }
 
 // Two of each are the same where every byte of every field is.
@@ -162,7 +169,7 @@ mod tests {
         assert_eq!(offset_of!(Station, bank), tracker + 8);
         assert_eq!(offset_of!(Station, counts), tracker + 8 + 3656);
         assert_eq!(size_of::<Station>(), tracker + 8 + 3656 + 48);
-        assert_eq!((size_of::<Answer>(), offset_of!(Answer, left)), (184, 32));
+        assert_eq!((size_of::<Answer>(), offset_of!(Answer, left)), (152, 32));
         assert_eq!((size_of::<Event>(), offset_of!(Event, value)), (8, 4));
         assert_eq!(offset_of!(Batch, answers), 8 + 64 * 8);
         assert_eq!((size_of::<Rival>(), offset_of!(Rival, gap_score)), (24, 20));
@@ -188,45 +195,48 @@ mod tests {
         let s = unsafe { c::hullathan_layout_station() };
         assert_eq!((s.serial, s.counts, s.accepted), (2, [4, 5, 6, 7, 8], 9));
         let (p, b) = (&s.primary, &s.bank);
-        assert_eq!((p.pair.hi.to_bits(), p.pair.lo_n), (2, 8));
+        assert_eq!((p.pair.hi.to_bits(), p.pair.lo_n), (2, 9));
         assert_eq!(
             (p.pair.init[0].to_bits(), p.pair.init[11].to_bits()),
             (3, 103)
         );
+        assert_eq!(p.pair.pad_placeholder_is_lo, [8, 8, 8, 8, 108]);
         assert_eq!(
             (p.ring[0].assigned_dit, p.ring[11].assigned_dit),
             (Bit(2), Bit(102))
         );
-        assert_eq!((p.has_wpm, p.lo_uncorroborated), (Bit(4), Bit(14)));
+        assert_eq!((p.has_wpm, p.lo_uncorroborated), (Bit(4), Bit(18)));
+        assert_eq!(p.pad_lo_uncorroborated, [19, 119]);
         assert_eq!(
             (b.switching, b.has_pending, b.started),
-            (Bit(2), Bit(17), 21)
+            (Bit(2), Bit(20), 25)
         );
         let (first, last) = (&b.challengers[0], &b.challengers[7]);
-        assert_eq!((first.origin, first.serial), (6, 11));
+        assert_eq!((first.origin, first.serial), (6, 14));
         assert_eq!(
             (last.reported, last.serial, last.tracker.regime),
-            (Bit(108), 111, 12)
+            (Bit(109), 114, 16)
         );
         assert_eq!((b.log[0].applied, b.log[15].applied), (Bit(4), Bit(104)));
         let a = unsafe { c::hullathan_layout_answer() };
-        assert_eq!((a.code, a.dah_ms.to_bits(), a.serial), (1, 3, 4));
+        assert_eq!((a.code, a.dah_ms.to_bits(), a.serial), (1, 4, 6));
         assert_eq!(
-            (a.left[8].serial, a.left[8].cause, a.left_len),
-            (101, 102, 7)
+            (a.left[6].serial, a.left[6].cause, a.left_len),
+            (101, 102, 9)
         );
         let q = unsafe { c::hullathan_layout_batch() };
         assert_eq!((q.len, q.events[0].live, q.events[63].kind), (1, 2, 101));
-        assert_eq!((q.answers[0].code, q.answers[63].left_len), (1, 107));
+        assert_eq!((q.answers[0].code, q.answers[63].left_len), (1, 109));
         let r = unsafe { c::hullathan_layout_reading() };
-        assert_eq!((r.code, r.switching, r.wpm.to_bits()), (1, Bit(4), 9));
+        assert_eq!((r.code, r.switching, r.wpm.to_bits()), (1, Bit(4), 10));
         assert_eq!(
             (r.serial, r.counts, r.challengers),
-            (12, [17, 18, 19, 20, 21], 22)
+            (13, [18, 19, 20, 21, 22], 23)
         );
         assert_eq!(
             (r.rivals[0].serial, r.rivals[7].gap_score.to_bits()),
             (1, 105)
         );
+        assert_eq!((r.log_len, r.log[15].applied), (25, Bit(104)));
     }
 }

@@ -247,6 +247,7 @@ fn log(random: &mut Random, b: &mut Bank) {
             from_dit_ms: good(random),
             to_dit_ms: good(random),
             applied: Bit::from(random.below(2) == 0),
+            ..Record::default()
         };
     }
 }

@@ -4,6 +4,7 @@ use super::count::reached::{BATCH_64, BATCH_MANY, BATCH_ONE, BATCH_REFUSED, BATC
 use super::Call;
 use crate::compare::{agree, Difference};
 use crate::forms;
+use crate::hullathan::bank::LEFT;
 use crate::hullathan::station as ours;
 use crate::hullathan::station::{Answer, Batch, Event, Station, MOST};
 use crate::random::Random;
@@ -11,14 +12,17 @@ use crate::random::Random;
 /// What stands in an answer's place before a batch is run.
 const UNTOUCHED: Answer = Answer {
     code: 77,
+    pad_code: [7; 3],
     dit_ms: -7.0,
     dah_ms: -77.0,
+    pad_dah_ms: [7; 4],
     serial: 777,
     challengers: 7,
     left: [crate::hullathan::bank::Departure {
         serial: 7,
         cause: 7,
-    }; 9],
+        pad_cause: [7; 7],
+    }; LEFT],
     left_len: 7,
 };
 

@@ -56,6 +56,7 @@ impl Event {
             kind: self.kind,
             live: if self.live { other } else { 0 },
             value: self.number(),
+            ..ours::Event::default()
         }
     }
 }
@@ -274,6 +275,9 @@ fn reading(rust: &Rust) -> Reading {
         counts: books.counts,
         challengers: b.challengers().len(),
         rivals,
+        log_len: b.switch_log().count(),
+        log: state::plain(b, &serials, 0).log,
+        ..Reading::default()
     }
 }
 

@@ -268,6 +268,7 @@ pub fn sound(random: &mut Random) -> Plain {
             assigned_dit: flag(8),
             pre_lo: junk,
             pre_hi: junk,
+            ..RingEntry::default()
         };
         if i < t.ring_len {
             (t.ring[i].pre_lo, t.ring[i].pre_hi) = centroids(random);

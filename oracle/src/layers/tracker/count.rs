@@ -292,6 +292,7 @@ impl Watch {
             assigned_dit: Bit::from(is_dit),
             pre_lo: p.lo,
             pre_hi: p.hi,
+            ..RingEntry::default()
         });
         let ring = &ring[ring.len().saturating_sub(12)..];
         self.ring(before, after, ring, is_dit);
