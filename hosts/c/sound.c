@@ -67,7 +67,7 @@ static int is_score(float x)
  * rounded down; if s is at least 2^32, write bit 1 and y = s halved, rounded down; else bit 0 and y = s. ..
  * L = E times 2^24 + t. The answer is L times 2977044472 / 2^56 as nearest f32".
  */
-static float ln_of(float v)
+float ln_of(float v)
 {
     unsigned int bits = bits_of(v);
     unsigned long y = ((bits & 0x7fffffUL) | 0x800000UL) << 8;
@@ -114,7 +114,7 @@ static int ring_sound(const struct hullathan_ring_entry *e, size_t n)
     return 1;
 }
 
-static int tracker_sound(const struct hullathan_tracker *t)
+int is_tracker_sound(const struct hullathan_tracker *t)
 {
     if (!is_flag(t->has_wpm) || !is_flag(t->has_egap) || !is_flag(t->has_hint))
         return 0;
@@ -135,7 +135,7 @@ static int tracker_sound(const struct hullathan_tracker *t)
 /* "one unready, or one holding other logarithms than its centroids have .. a score outside -30 to 0" */
 static int rival_sound(const struct hullathan_hypothesis *h)
 {
-    if (!tracker_sound(&h->tracker) || !h->tracker.pair.ready)
+    if (!is_tracker_sound(&h->tracker) || !h->tracker.pair.ready)
         return 0;
     if (bits_of(h->ln_lo) != bits_of(ln_of(h->tracker.pair.lo)))
         return 0;
@@ -180,7 +180,7 @@ static int log_sound(const struct hullathan_bank *b)
     return 1;
 }
 
-static int bank_sound(const struct hullathan_bank *b)
+int is_bank_sound(const struct hullathan_bank *b)
 {
     /* "width 0 or above 8; challengers not below the width" */
     if (b->width < 1 || b->width > HULLATHAN_WIDEST || b->challengers_len >= b->width)
@@ -237,7 +237,7 @@ static int balanced(const struct hullathan_station *s)
 
 int is_sound(const struct hullathan_station *s)
 {
-    if (!tracker_sound(&s->primary) || !bank_sound(&s->bank))
+    if (!is_tracker_sound(&s->primary) || !is_bank_sound(&s->bank))
         return 0;
     /* "started above the accepted calls" */
     return serials_sound(s) && s->bank.started <= s->accepted && balanced(s);
@@ -265,6 +265,44 @@ unsigned int refusal_of(const struct hullathan_station *s, unsigned char kind, f
     if (s->bank.marks_seen >= most || s->bank.gaps_seen >= most || s->accepted >= most)
         return 2;
     return event_refusal(kind, value);
+}
+
+unsigned int switch_refusal(const struct hullathan_bank *b, const struct hullathan_tracker *primary)
+{
+    unsigned long most = 4294967295UL;
+
+    if (!is_bank_sound(b) || !is_tracker_sound(primary))
+        return 1;
+    /* "At a switch: a choice pending and the primary (the station's or the lent one) unready." */
+    if (b->has_pending && !primary->pair.ready)
+        return 1;
+    return b->marks_seen >= most || b->gaps_seen >= most ? 2 : 0;
+}
+
+/* ---- a sender */
+
+/* "an observed class with mean outside 0.0001 to 13,108, or variance negative or not finite" */
+static int class_sound(const struct hullathan_class_stats *c)
+{
+    return c->n == 0 || (within(0.0001f, 13108.0f, c->mean) && within(0, FLT_MAX, c->var));
+}
+
+int is_sender_sound(const struct hullathan_sender *t)
+{
+    return class_sound(&t->dot) && class_sound(&t->dash) && class_sound(&t->element_gap) && class_sound(&t->char_gap)
+           && class_sound(&t->word_gap);
+}
+
+unsigned int observe_refusal(const struct hullathan_sender *t, unsigned char timing_class, float dur_ms, float dit_ms)
+{
+    if (!is_sender_sound(t))
+        return 1;
+    if (duration_refusal(dur_ms) != 0)
+        return duration_refusal(dur_ms);
+    /* "The dit given to `observe` is NaN or outside 20 to 150." */
+    if (!within(20.0f, 150.0f, dit_ms))
+        return 9;
+    return timing_class > HULLATHAN_WORD_GAP ? 12 : 0;
 }
 
 /* ---- what is part of a state: the fields are copied, and zeros put into all else */
@@ -363,6 +401,18 @@ static void copy_bank(struct hullathan_bank *to, const struct hullathan_bank *fr
     for (i = 0; i < from->log_len; i++)
         copy_record(&to->log[i], &from->log[i]);
     COPY(started);
+}
+
+void state_of_tracker(struct hullathan_tracker *to, const struct hullathan_tracker *from)
+{
+    memset(to, 0, sizeof *to);
+    copy_tracker(to, from);
+}
+
+void state_of_bank(struct hullathan_bank *to, const struct hullathan_bank *from)
+{
+    memset(to, 0, sizeof *to);
+    copy_bank(to, from);
 }
 
 void state_of(struct hullathan_station *to, const struct hullathan_station *from)

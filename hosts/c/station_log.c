@@ -169,7 +169,7 @@ static int fill(struct entry *e, const struct line *l)
 /* What a line says, to a watch that has a station or has none. */
 static struct entry entry_of(const struct line *l, int standing)
 {
-    static const struct entry bad = {'?', 0, 0, {NO_KIND, 0, 0}};
+    static const struct entry bad = {'?', 0, 0, {NO_KIND, 0, {0, 0}, 0}};
     struct entry e = bad;
 
     if (l->ended && l->length < LINE_MOST && fill(&e, l) && (e.letter == 'W') != standing)
@@ -277,6 +277,11 @@ int main(int argc, char **argv)
 
     if (argc > 1 && !batched) {
         fputs("usage: station_log [-b] < JOURNAL\n", stderr);
+        return EXIT_FAILURE;
+    }
+    if (!HULLATHAN_FITS()) {
+        fprintf(stderr, "station_log: libhullathan.a has version %u, hullathan.h %u, or other sizes\n",
+                hullathan_version(), HULLATHAN_VERSION);
         return EXIT_FAILURE;
     }
     answer_all(&w, batched);

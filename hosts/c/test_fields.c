@@ -327,7 +327,79 @@ static void beyond(const struct hullathan_station *good, const char *name)
     PASSED_OVER(s.bank.log[15].applied = 255);
 }
 
+/* The pads, filled with a byte. */
+#define PAD(name) memset(name, byte, sizeof(name))
+
+static void pad_tracker(struct hullathan_tracker *t, int byte)
+{
+    size_t i;
+
+    PAD(t->pair.pad_placeholder_is_lo);
+    for (i = 0; i < HULLATHAN_RING; i++)
+        PAD(t->ring[i].pad_assigned_dit);
+    PAD(t->pad_has_wpm);
+    PAD(t->pad_recent);
+    PAD(t->pad_has_egap);
+    PAD(t->pad_has_hint);
+    PAD(t->pad_lo_uncorroborated);
+}
+
+static void pad_bank(struct hullathan_bank *b, int byte)
+{
+    size_t i;
+
+    for (i = 0; i < HULLATHAN_WIDEST; i++) {
+        pad_tracker(&b->challengers[i].tracker, byte);
+        PAD(b->challengers[i].pad_origin);
+        PAD(b->challengers[i].pad_reported);
+        PAD(b->challengers[i].pad_ln_hi);
+    }
+    for (i = 0; i < HULLATHAN_LOG; i++)
+        PAD(b->log[i].pad_applied);
+    PAD(b->pad_switching);
+    PAD(b->pad_primary_gap_score);
+    PAD(b->pad_has_last_gap);
+    PAD(b->pad_has_pending);
+}
+
+/* Pads are never looked at, and an accepted call leaves zeros in them (is_tidy in tries.c). */
+static void pads(const struct hullathan_station *good, const char *name)
+{
+    int byte;
+
+    base = good;
+    for (byte = 1; byte < 256; byte++) {
+        begin(name);
+        pad_tracker(&s.primary, byte);
+        pad_bank(&s.bank, byte);
+        is_passed_over();
+    }
+}
+
 /* ---- the other refusals */
+
+/* A batch of events that are all refused, on a station with bytes in what is no part of it: they stay. */
+static void all_refused(const struct hullathan_station *good, const char *name)
+{
+    static struct hullathan_batch b;
+    struct hullathan_station was;
+
+    base = good;
+    begin(name);
+    fill_beyond(0xa7);
+    pad_tracker(&s.primary, 0xa7);
+    pad_bank(&s.bank, 0xa7);
+    memcpy(&was, &s, sizeof was);
+    for (b.len = 0; b.len < HULLATHAN_BATCH; b.len++) {
+        b.events[b.len].kind = (unsigned char) (b.len % 2 ? HULLATHAN_MARK : 200);
+        b.events[b.len].value = -1;
+    }
+    expect(hullathan_run(&s, &b) == HULLATHAN_DONE, "a batch of refused events is run");
+    expect(memcmp(&s, &was, sizeof s) == 0, "a batch of refused events changes no byte");
+    try_run(&was, &b);
+    b.events[HULLATHAN_BATCH - 1].kind = HULLATHAN_CLEAR;
+    try_run(&was, &b);
+}
 
 /* A batch of marks and gaps on a station that is full before its end. */
 static void run_to_the_end(void)
@@ -408,6 +480,10 @@ int main(void)
     beyond(&challenged, "places beyond the counts of a challenged station");
     beyond(&switched, "places beyond the counts of a switched station");
     beyond(&rich, "places beyond the counts of a rich station");
+    pads(&fresh, "pads of a fresh station");
+    pads(&rich, "pads of a rich station");
+    all_refused(&waiting, "a batch of refused events on an unready station");
+    all_refused(&rich, "a batch of refused events on a rich station");
     base = &rich;
     full(&s.bank.marks_seen, "marks counted to the end");
     full(&s.bank.gaps_seen, "gaps counted to the end");

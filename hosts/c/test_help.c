@@ -136,51 +136,16 @@ struct hullathan_event next_event(struct air *a)
     return odd_event(a);
 }
 
-/* ---- comparing */
-
-static int same_float(float x, float y)
-{
-    return bits_of_float(x) == bits_of_float(y);
-}
+/* ---- comparing: every byte of a struct belongs to a field */
 
 int same_answer(const struct hullathan_answer *a, const struct hullathan_answer *b)
 {
-    size_t i;
-
-    for (i = 0; i < HULLATHAN_LEFT; i++) {
-        if (a->left[i].serial != b->left[i].serial || a->left[i].cause != b->left[i].cause)
-            return 0;
-    }
-    return a->code == b->code && same_float(a->dit_ms, b->dit_ms) && same_float(a->dah_ms, b->dah_ms)
-           && a->serial == b->serial && a->challengers == b->challengers && a->left_len == b->left_len;
-}
-
-static int same_rival(const struct hullathan_rival *a, const struct hullathan_rival *b)
-{
-    return a->serial == b->serial && same_float(a->dit_ms, b->dit_ms) && same_float(a->dah_ms, b->dah_ms)
-           && same_float(a->score, b->score) && same_float(a->gap_score, b->gap_score);
-}
-
-/* The counts of two readings. */
-static int same_counts(const struct hullathan_reading *a, const struct hullathan_reading *b)
-{
-    return a->serial == b->serial && a->accepted == b->accepted && a->marks == b->marks && a->gaps == b->gaps
-           && a->started == b->started && a->twins == b->twins && a->outscored == b->outscored && a->aged == b->aged
-           && a->replaced == b->replaced && a->cleared == b->cleared && a->challengers == b->challengers;
+    return memcmp(a, b, sizeof *a) == 0;
 }
 
 int same_reading(const struct hullathan_reading *a, const struct hullathan_reading *b)
 {
-    size_t i;
-
-    for (i = 0; i < HULLATHAN_WIDEST; i++) {
-        if (!same_rival(&a->rivals[i], &b->rivals[i]))
-            return 0;
-    }
-    return same_counts(a, b) && a->code == b->code && a->ready == b->ready && a->has_wpm == b->has_wpm
-           && a->switching == b->switching && a->width == b->width && same_float(a->dit_ms, b->dit_ms)
-           && same_float(a->dah_ms, b->dah_ms) && same_float(a->dit_estimate_ms, b->dit_estimate_ms)
-           && same_float(a->wpm, b->wpm) && same_float(a->score, b->score) && same_float(a->gap_score, b->gap_score);
+    return memcmp(a, b, sizeof *a) == 0;
 }
 
 int same_state(const struct hullathan_station *a, const struct hullathan_station *b)

@@ -36,7 +36,7 @@ struct air air_of(unsigned long seed);
 /* A mark, a gap or a switch, seldom something else; refused ones among them. */
 struct hullathan_event next_event(struct air *a);
 
-/* Whether all fields are the same, floats by their bits. */
+/* Whether all fields are the same, the pads among them. */
 int same_answer(const struct hullathan_answer *a, const struct hullathan_answer *b);
 int same_reading(const struct hullathan_reading *a, const struct hullathan_reading *b);
 

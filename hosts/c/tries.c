@@ -68,6 +68,15 @@ static int batch_untouched(void)
 
 /* ---- one call, held to what document 01 says of it */
 
+/* Whether a station holds zeros in all that is no part of it. */
+static int is_tidy(const struct hullathan_station *s)
+{
+    struct hullathan_station state;
+
+    state_of(&state, s);
+    return memcmp(&state, s, sizeof state) == 0;
+}
+
 /* A code that there is. */
 static int is_code(unsigned char code)
 {
@@ -127,6 +136,7 @@ unsigned char try_call(const struct hullathan_station *s, unsigned char kind, fl
         expect(same_answer(&a, &said), "a refused call tells the station as it is, or zeros");
     } else {
         expect(is_sound(&lent.it), "an accepted call leaves a sound station");
+        expect(is_tidy(&lent.it), "an accepted call leaves zeros in what is no part of the station");
         expect(lent.it.accepted == s->accepted + 1, "an accepted call is counted");
         expect(well_formed(&a), "an answer is well formed");
     }
@@ -164,6 +174,20 @@ static void read_rivals(struct hullathan_reading *r, const struct hullathan_bank
     }
 }
 
+/* The log in the reading of a station. */
+static void read_log(struct hullathan_reading *r, const struct hullathan_bank *b)
+{
+    size_t i;
+
+    r->log_len = b->log_len;
+    for (i = 0; i < b->log_len; i++) {
+        r->log[i].mark_index = b->log[i].mark_index;
+        r->log[i].from_dit_ms = b->log[i].from_dit_ms;
+        r->log[i].to_dit_ms = b->log[i].to_dit_ms;
+        r->log[i].applied = b->log[i].applied;
+    }
+}
+
 /* The reading of a sound station. */
 static struct hullathan_reading reading_of(const struct hullathan_station *s)
 {
@@ -191,6 +215,7 @@ static struct hullathan_reading reading_of(const struct hullathan_station *s)
     r.replaced = s->replaced;
     r.cleared = s->cleared;
     read_rivals(&r, &s->bank);
+    read_log(&r, &s->bank);
     return r;
 }
 
@@ -213,7 +238,7 @@ unsigned char try_read(const struct hullathan_station *s)
 
 void try_start(const struct hullathan_station *s, size_t width, unsigned char switching)
 {
-    struct hullathan_station is, said;
+    struct hullathan_station said;
     int good = width <= HULLATHAN_WIDEST;
     unsigned char code;
 
@@ -224,10 +249,8 @@ void try_start(const struct hullathan_station *s, size_t width, unsigned char sw
     code = hullathan_start(&lent.it, width, switching);
     expect(code == (good ? HULLATHAN_DONE : HULLATHAN_REFUSED + 3), "a start is refused by 3 above 8");
     expect(untouched_beside(), "a start touches nothing beside the station");
-    if (expect(is_sound(&lent.it), "a start gives a sound station")) {
-        state_of(&is, &lent.it);
-        expect(memcmp(&is, &said, sizeof is) == 0, "a start gives a fresh station");
-    }
+    expect(is_sound(&lent.it), "a start gives a sound station");
+    expect(memcmp(&lent.it, &said, sizeof said) == 0, "a start gives a fresh station, every byte of it");
 }
 
 /* The batch that was run gives what its events give one by one. */
@@ -244,7 +267,7 @@ static void check_answers(const struct hullathan_station *s, const struct hullat
         same = same && same_answer(&a, &batch.it.answers[i]);
     }
     expect(same, "each answer of a batch is that of a call");
-    expect(same_state(&one, &lent.it), "a batch leaves the station that the calls leave");
+    expect(memcmp(&one, &lent.it, sizeof one) == 0, "a batch leaves the bytes that the calls leave");
 }
 
 void try_run(const struct hullathan_station *s, const struct hullathan_batch *b)
