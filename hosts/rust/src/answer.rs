@@ -81,6 +81,7 @@ impl Cause {
 
 /// A rival that left in a call, and why.
 #[derive(Clone, Copy, Debug, PartialEq, Eq, Hash)]
+#[non_exhaustive]
 pub struct Departure {
     /// Its serial.
     pub serial: u64,
@@ -91,7 +92,7 @@ pub struct Departure {
 /// The answer to an accepted event: its code, the station after it, and who left in it.
 ///
 /// ```
-/// use hullathan::{Cause, Code, Departure, Event, Station};
+/// use hullathan::{Cause, Code, Event, Station};
 ///
 /// // two marks of 150 ms and the end: dits, or dahs; the other reading starts as a rival
 /// let mut station = Station::start(2, true)?;
@@ -105,8 +106,8 @@ pub struct Departure {
 /// assert_eq!(answer.departures().len(), 0);
 ///
 /// let answer = station.call(Event::Clear)?;
-/// let left: Vec<_> = answer.departures().collect();
-/// assert_eq!(left, [Departure { serial: 1, cause: Cause::Cleared }]);
+/// let left: Vec<_> = answer.departures().map(|d| (d.serial, d.cause)).collect();
+/// assert_eq!(left, [(1, Cause::Cleared)]);
 /// # Ok::<(), hullathan::Refusal>(())
 /// ```
 #[derive(Clone, Copy, PartialEq)]
@@ -121,7 +122,7 @@ pub struct Answer {
     pub serial: u64,
     /// How many challengers the bank holds.
     pub challengers: usize,
-    left: [sys::Departure; 9],
+    left: [sys::Departure; 7],
     left_len: usize,
 }
 
@@ -140,7 +141,7 @@ impl Answer {
         })
     }
 
-    /// Those that left in the call, at most nine; their order has no meaning.
+    /// Those that left in the call, at most seven; their order has no meaning.
     pub fn departures(&self) -> impl ExactSizeIterator<Item = Departure> + '_ {
         let left = self.left.iter().take(self.left_len);
         left.map(|d| Departure {

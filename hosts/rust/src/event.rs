@@ -13,11 +13,17 @@ use crate::sys;
 /// ```
 #[derive(Clone, Copy, Debug, PartialEq)]
 pub enum Event {
-    /// A mark (key down). One that is not live was heard before: the readings are scored by it, and none learns from it.
+    /// A mark (key down).
+    ///
+    /// A live one is heard for the first time: the primary learns it, each rival is scored by it and then learns it, and
+    /// it may start a new rival. One that is not live was learnt before and is handed over again, as when a receiver
+    /// that held back the first marks until the station was ready plays them once more: every reading is scored by it,
+    /// rivals grow older, leave or are chosen, but none learns from it and none is started by it. Where the primary is
+    /// unready or the width is 1, it does nothing. A receiver that hands over each mark once, when it ends, says `true`.
     Mark {
         /// Its length in milliseconds, from 1/64 to 262,144.
         ms: f32,
-        /// Whether it is heard for the first time.
+        /// Whether it is heard for the first time: see above.
         live: bool,
     },
     /// A gap (key up).
@@ -37,9 +43,16 @@ pub enum Event {
         /// Dah by dit. One that is not finite empties the hint.
         ratio: f32,
     },
-    /// Let all rivals go.
+    /// Let all rivals go: after a break in the reception, say.
     Clear,
-    /// May a rival take over?
+    /// May the chosen rival take over?
+    ///
+    /// Each mark makes the choice anew, and it stands until the next mark, clear, seed or switch call; gaps do not end
+    /// it. So ask after a mark and before the next one, where the decoder can bear another dit: once the gap tells that a
+    /// letter has ended (twice [`Reading::dit_estimate_ms`](crate::Reading::dit_estimate_ms) or more), or a word. Asked
+    /// after each mark, one letter may be read by two dits; never asked, the primary stays whatever the scores. With
+    /// switching off the answer is always [`Code::Nothing`](crate::Code::Nothing), and the switch that would have been
+    /// made is put into the log, once for each lead.
     Switch,
 }
 
@@ -57,6 +70,11 @@ impl Event {
             Event::Switch => (6, false, 0.0),
         };
         let live = live.into();
-        sys::Event { kind, live, value }
+        sys::Event {
+            kind,
+            live,
+            pad_live: [0; 2],
+            value,
+        }
     }
 }

@@ -5,6 +5,7 @@ use std::fmt;
 
 /// A rival as it stands.
 #[derive(Clone, Copy, Debug, PartialEq)]
+#[non_exhaustive]
 pub struct Rival {
     /// Its serial.
     pub serial: u64,
@@ -16,6 +17,20 @@ pub struct Rival {
     pub score: f32,
     /// The same of the gaps alone.
     pub gap_score: f32,
+}
+
+/// A switch that was made, or that would have been made with switching on.
+#[derive(Clone, Copy, Debug, PartialEq)]
+#[non_exhaustive]
+pub struct SwitchRecord {
+    /// The mark at which the rival was chosen, counted from 1 as [`Reading::marks`] counts them.
+    pub mark: u64,
+    /// The dit of the primary, in milliseconds.
+    pub from_dit_ms: f32,
+    /// The dit of the rival.
+    pub to_dit_ms: f32,
+    /// Whether it was made.
+    pub applied: bool,
 }
 
 /// A station as it stands.
@@ -45,7 +60,8 @@ pub struct Reading {
     pub dit_ms: f32,
     /// The primary's dah in milliseconds; 0 while it is unready.
     pub dah_ms: f32,
-    /// The primary's dit estimate in milliseconds.
+    /// The primary's dit estimate in milliseconds, the unit of speed and gaps: the dit, corrected by the gaps within
+    /// letters.
     pub dit_estimate_ms: f32,
     /// The primary's speed in words a minute, where it has one.
     pub wpm: Option<f32>,
@@ -61,7 +77,7 @@ pub struct Reading {
     pub switching: bool,
     /// How many calls were accepted.
     pub accepted: u64,
-    /// How many marks the bank heard.
+    /// How many marks the bank heard: those with a ready primary, at a width of 2 or more.
     pub marks: u64,
     /// How many gaps the bank heard.
     pub gaps: u64,
@@ -71,6 +87,8 @@ pub struct Reading {
     pub challengers: usize,
     departed: [u64; 5],
     rivals: [sys::Rival; 8],
+    log_len: usize,
+    log: [sys::SwitchRecord; 16],
 }
 
 impl Reading {
@@ -94,6 +112,8 @@ impl Reading {
             challengers: r.challengers,
             departed: [r.twins, r.outscored, r.aged, r.replaced, r.cleared],
             rivals: r.rivals,
+            log_len: r.log_len,
+            log: r.log,
         }
     }
 
@@ -112,6 +132,25 @@ impl Reading {
             dah_ms: r.dah_ms,
             score: r.score,
             gap_score: r.gap_score,
+        })
+    }
+
+    /// The last switches, at most 16, oldest first.
+    ///
+    /// ```
+    /// let station = hullathan::Station::start(2, true)?;
+    /// for switch in station.read().log() {
+    ///     println!("at mark {}: {} ms after {}", switch.mark, switch.to_dit_ms, switch.from_dit_ms);
+    /// }
+    /// # Ok::<(), hullathan::Refusal>(())
+    /// ```
+    pub fn log(&self) -> impl ExactSizeIterator<Item = SwitchRecord> + '_ {
+        let log = self.log.iter().take(self.log_len);
+        log.map(|r| SwitchRecord {
+            mark: r.mark_index,
+            from_dit_ms: r.from_dit_ms,
+            to_dit_ms: r.to_dit_ms,
+            applied: r.applied != 0,
         })
     }
 }
@@ -136,6 +175,7 @@ impl fmt::Debug for Reading {
             .field("started", &self.started)
             .field("departed", &departed)
             .field("rivals", &self.rivals().collect::<Vec<_>>())
+            .field("log", &self.log().collect::<Vec<_>>())
             .finish()
     }
 }

@@ -3,10 +3,11 @@
 use std::error::Error;
 use std::fmt;
 
-/// Why a call was refused: document 01's twelve numbers, in checking order. A refused call leaves the station as it was.
+/// Why a call was refused: document 01's numbers, in checking order. A refused call leaves the station as it was.
 ///
-/// A station refuses by 1 (bytes that are handed in), 2, 3 and 5 to 8. The others are those of calls and of a journal that are not part of a station; they
-/// stand here so that a log has one type for all of them.
+/// A station refuses by 1 (bytes that are handed in), 2, 3 and 5 to 8, a sender by 1, 5 to 7 and 9. The others are those
+/// of calls and of a journal that are not in this crate; they stand here so that a log has one type for all of them. More
+/// numbers will come: a `match` has a last arm for them.
 ///
 /// ```
 /// use hullathan::{Event, Refusal, Station};
@@ -22,6 +23,7 @@ use std::fmt;
 /// ```
 #[repr(u8)]
 #[derive(Clone, Copy, Debug, PartialEq, Eq, PartialOrd, Ord, Hash)]
+#[non_exhaustive]
 pub enum Refusal {
     /// 1: a state handed in is unsound.
     UnsoundState = 1,
@@ -45,13 +47,13 @@ pub enum Refusal {
     NoLogarithm = 10,
     /// 11: the root's input is NaN, infinite or below zero.
     NoRoot = 11,
-    /// 12: a journal line, or an event, breaks its form.
+    /// 12: a journal line, an event or a class breaks its form.
     BrokenForm = 12,
 }
 
 impl Refusal {
-    /// All twelve, by their numbers.
-    pub const ALL: [Refusal; 12] = [
+    /// All that there are, by their numbers.
+    pub const ALL: &'static [Refusal] = &[
         Refusal::UnsoundState,
         Refusal::CountsFull,
         Refusal::WidthAbove8,
@@ -66,7 +68,7 @@ impl Refusal {
         Refusal::BrokenForm,
     ];
 
-    /// Document 01's number, 1 to 12.
+    /// Document 01's number.
     #[must_use]
     pub const fn number(self) -> u8 {
         self as u8
@@ -82,7 +84,7 @@ impl Refusal {
     /// ```
     #[must_use]
     pub fn from_number(number: u8) -> Option<Refusal> {
-        Refusal::ALL.into_iter().find(|r| r.number() == number)
+        Refusal::ALL.iter().copied().find(|r| r.number() == number)
     }
 
     /// What was wrong, in document 01's words.
@@ -101,7 +103,7 @@ impl Refusal {
             Refusal::DitOutOfRange => "the dit is NaN or outside 20 to 150 ms",
             Refusal::NoLogarithm => "the logarithm's input is not finite and positive",
             Refusal::NoRoot => "the root's input is NaN, infinite or below zero",
-            Refusal::BrokenForm => "the line or the event breaks its form",
+            Refusal::BrokenForm => "the line, the event or the class breaks its form",
         }
     }
 }

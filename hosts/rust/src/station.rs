@@ -28,7 +28,7 @@ use std::fmt;
 /// ```
 #[derive(Clone)]
 pub struct Station {
-    pub(crate) memory: sys::Memory,
+    pub(crate) memory: sys::StationMemory,
 }
 
 impl Station {
@@ -108,7 +108,8 @@ impl Station {
 
     /// The same answers by batches: each time that an answer is asked for and none is held, up to 64 events are taken and called at once.
     ///
-    /// So it reads ahead: where it is left before its end, up to 63 events more have been heard than answers were taken. It holds one batch, of 12,296 bytes.
+    /// Each event has its answer, in order, and a refused one changes nothing: go on after it, and nothing is lost. Who leaves at the first refusal (with `?`, say)
+    /// loses answers: up to 63 events after it have been heard. To hear nothing after a refusal there is [`Station::calls`]. It holds one batch, of 10,248 bytes.
     ///
     /// ```
     /// use hullathan::{Event, Station};
@@ -118,6 +119,14 @@ impl Station {
     /// let mut other = one.clone();
     /// assert!(one.batches(watch).eq(other.calls(watch)));
     /// assert_eq!(one.read(), other.read());
+    ///
+    /// // every event with what came of it
+    /// for (event, answer) in watch.into_iter().zip(one.batches(watch)) {
+    ///     match answer {
+    ///         Ok(answer) => println!("{event:?}: {:?}, dit {} ms", answer.code, answer.dit_ms),
+    ///         Err(refusal) => println!("{event:?}: {refusal}"),
+    ///     }
+    /// }
     /// # Ok::<(), hullathan::Refusal>(())
     /// ```
     pub fn batches<I>(&mut self, events: I) -> Batches<'_, I::IntoIter>
@@ -133,7 +142,9 @@ impl Station {
         Reading::of(&sys::read(&self.memory))
     }
 
-    /// The station's memory, to be stored. Bytes between the fields and places beyond a count have no meaning, so two stations that are alike may differ in them.
+    /// The station's memory, to be stored. Two stations that are alike have the same bytes: what is no part of a station,
+    /// such as places beyond a count, holds zeros. (In one that was handed in by [`Station::from_bytes`] it holds what
+    /// stood there, until a call is accepted.)
     ///
     /// ```
     /// use hullathan::{Event, Station};
