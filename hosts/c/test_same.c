@@ -77,6 +77,7 @@ static void list(unsigned long seed)
     memset(&many, 0xcc, sizeof many);
     check(hullathan_start(&one, width, switching) == HULLATHAN_DONE, "a station is started");
     check(hullathan_start(&many, width, switching) == HULLATHAN_DONE, "a station is started");
+    check(memcmp(&one, &many, sizeof one) == 0, "two starts are the same bytes, whatever stood there");
     while (done < EVENTS) {
         len = throw_below(&air.dice, HULLATHAN_BATCH + 1);
         step(&one, &many, &air, len);

@@ -204,6 +204,8 @@ static void beyond(void)
         t.has_hint = 0;
         memset(&t.ratio_hint, byte, sizeof t.ratio_hint);
         expect(try_switch(&b, &t, 7) == HULLATHAN_SWITCHED, "exchanged");
+        b.challengers[0].tracker.badlock_recovered = 1;
+        expect(try_switch(&b, &t, 7) == HULLATHAN_SWITCHED, "exchanged, and the rival's mending is told to nobody");
         b.switching = 0;
         expect(try_switch(&b, &t, 7) == HULLATHAN_NOTHING, "written into the log");
         b.has_pending = 0;
@@ -221,6 +223,9 @@ static void refusals(void)
     strcpy(damage, "refusals in their order");
     memcpy(&b, &challenged.bank, sizeof b);
     memcpy(&t, &challenged.primary, sizeof t);
+    /* bytes that a refused call leaves too */
+    memset(b.pad_has_pending, 0x5a, sizeof b.pad_has_pending);
+    memset(t.pad_recent, 0x5a, sizeof t.pad_recent);
     expect(try_switch(&b, &t, (unsigned long) -1) == HULLATHAN_SWITCHED, "any serial is lent");
     t.regime++;
     expect(try_switch(&b, &t, 0) == HULLATHAN_SWITCHED, "another tracker than the bank's station has");
