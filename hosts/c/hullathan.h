@@ -63,7 +63,8 @@ extern "C" {
 #define HULLATHAN_GAP 1    /* a gap in ms */
 #define HULLATHAN_FINISH 2 /* the signal has ended: be ready by the marks that are there, if there are two */
 #define HULLATHAN_SEED 3   /* a speed in words a minute that is known otherwise; all rivals go */
-#define HULLATHAN_HINT 4   /* how many dits a dah of this sender has; "a hint not finite empties the hint" */
+#define HULLATHAN_HINT 4   /* how many dits a dah of this sender has: from 2.2 to 6.0, others as the nearer of the
+                              two; "a hint not finite empties the hint" */
 #define HULLATHAN_CLEAR 5  /* all rivals go: after a break in the reception, say */
 #define HULLATHAN_SWITCH 6 /* may the chosen rival take over? See hullathan_call */
 
@@ -162,7 +163,7 @@ struct hullathan_ring_entry {
 /* A reading, and what it was learnt from. */
 struct hullathan_tracker {
     struct hullathan_pair pair;
-    struct hullathan_ring_entry ring[HULLATHAN_RING]; /* the last marks, while they are of one class */
+    struct hullathan_ring_entry ring[HULLATHAN_RING]; /* the last marks since it was ready, oldest first */
     size_t ring_len;
     unsigned char has_wpm;
     unsigned char pad_has_wpm[3];

@@ -40,7 +40,7 @@ pub enum Event {
     },
     /// How many dits a dah of this sender has.
     Hint {
-        /// Dah by dit. One that is not finite empties the hint.
+        /// Dah by dit, from 2.2 to 6.0; others count as the nearer of the two. One that is not finite empties the hint.
         ratio: f32,
     },
     /// Let all rivals go: after a break in the reception, say.
