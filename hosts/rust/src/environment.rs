@@ -1,9 +1,9 @@
 //! The floating-point environment that the library asks for.
 //!
-//! It is what a program starts with, and what Rust itself expects: rounding to nearest, subnormals as they are (neither
-//! flush-to-zero nor denormals-are-zero), exceptions masked. With another rounding a dit has other last bits; with
-//! exceptions unmasked a call may raise SIGFPE. A program all in Rust has it. Code that is called from elsewhere, such as
-//! a plug-in in an audio program, may not: it holds a [`Guard`] while it calls.
+//! It is what a program starts with, and what Rust itself expects: rounding to nearest, subnormals as they are
+//! (neither flush-to-zero nor denormals-are-zero), exceptions masked. With another rounding a dit has other last
+//! bits; with exceptions unmasked a call may raise SIGFPE. A program all in Rust has it. Code that is called from
+//! elsewhere, such as a plug-in in an audio program, may not: it holds a [`Guard`] while it calls.
 //!
 //! The environment belongs to a thread, and lies in the control bits of the register MXCSR; the library uses no x87
 //! instruction.

@@ -15,11 +15,12 @@ use crate::sys;
 pub enum Event {
     /// A mark (key down).
     ///
-    /// A live one is heard for the first time: the primary learns it, each rival is scored by it and then learns it, and
-    /// it may start a new rival. One that is not live was learnt before and is handed over again, as when a receiver
-    /// that held back the first marks until the station was ready plays them once more: every reading is scored by it,
-    /// rivals grow older, leave or are chosen, but none learns from it and none is started by it. Where the primary is
-    /// unready or the width is 1, it does nothing. A receiver that hands over each mark once, when it ends, says `true`.
+    /// A live one is heard for the first time: the primary learns it, each rival is scored by it and then learns it,
+    /// and it may start a new rival. One that is not live was learnt before and is handed over again, as when a
+    /// receiver that held back the first marks until the station was ready plays them once more: every reading is
+    /// scored by it, rivals grow older, leave or are chosen, but none learns from it and none is started by it. Where
+    /// the primary is unready or the width is 1, it does nothing. A receiver that hands over each mark once, when it
+    /// ends, says `true`.
     Mark {
         /// Its length in milliseconds, from 1/64 to 262,144.
         ms: f32,
@@ -40,19 +41,20 @@ pub enum Event {
     },
     /// How many dits a dah of this sender has.
     Hint {
-        /// Dah by dit, from 2.2 to 6.0; others count as the nearer of the two. One that is not finite empties the hint.
+        /// Dah by dit, from 2.2 to 6.0; others count as the nearer of the two. One that is not finite empties the
+        /// hint.
         ratio: f32,
     },
     /// Let all rivals go: after a break in the reception, say.
     Clear,
     /// May the chosen rival take over?
     ///
-    /// Each mark makes the choice anew, and it stands until the next mark, clear, seed or switch call; gaps do not end
-    /// it. So ask after a mark and before the next one, where the decoder can bear another dit: once the gap tells that a
-    /// letter has ended (twice [`Reading::dit_estimate_ms`](crate::Reading::dit_estimate_ms) or more), or a word. Asked
-    /// after each mark, one letter may be read by two dits; never asked, the primary stays whatever the scores. With
-    /// switching off the answer is always [`Code::Nothing`](crate::Code::Nothing), and the switch that would have been
-    /// made is put into the log, once for each lead.
+    /// Each mark makes the choice anew, and it stands until the next mark, clear, seed or switch call; gaps do not
+    /// end it. So ask after a mark and before the next one, where the decoder can bear another dit: once the gap
+    /// tells that a letter has ended (twice [`Reading::dit_estimate_ms`](crate::Reading::dit_estimate_ms) or more),
+    /// or a word. Asked after each mark, one letter may be read by two dits; never asked, the primary stays whatever
+    /// the scores. With switching off the answer is always [`Code::Nothing`](crate::Code::Nothing), and the switch
+    /// that would have been made is put into the log, once for each lead.
     Switch,
 }
 

@@ -5,9 +5,9 @@ use std::fmt;
 
 /// Why a call was refused: document 01's numbers, in checking order. A refused call leaves the station as it was.
 ///
-/// A station refuses by 1 (bytes that are handed in), 2, 3 and 5 to 8, a sender by 1, 5 to 7 and 9. The others are those
-/// of calls and of a journal that are not in this crate; they stand here so that a log has one type for all of them. More
-/// numbers will come: a `match` has a last arm for them.
+/// A station refuses by 1 (bytes that are handed in), 2, 3 and 5 to 8, a sender by 1, 5 to 7 and 9. The others are
+/// those of calls and of a journal that are not in this crate; they stand here so that a log has one type for all of
+/// them. More numbers will come: a `match` has a last arm for them.
 ///
 /// ```
 /// use hullathan::{Event, Refusal, Station};

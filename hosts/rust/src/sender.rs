@@ -82,8 +82,9 @@ fn class_reading(c: &sys::ClassStats) -> Option<ClassReading> {
     })
 }
 
-/// A sender's habits: how long its dots, dashes and gaps are, in dits. A receiver that has read a mark or a gap as one of
-/// the five classes observes it with the dit estimate of its station at that time, and starts anew after a switch.
+/// A sender's habits: how long its dots, dashes and gaps are, in dits. A receiver that has read a mark or a gap as
+/// one of the five classes observes it with the dit estimate of its station at that time, and starts anew after a
+/// switch.
 ///
 /// It is 60 bytes that hold no pointer, and can be cloned and stored as a station can.
 ///

@@ -6,7 +6,8 @@ use std::fmt;
 
 /// A station: a reading of the sender, the primary, and a bank of rivals that may replace it.
 ///
-/// It is 4,056 bytes that hold no pointer and nothing of the system: it can be cloned, sent to another thread, and stored as bytes.
+/// It is 4,056 bytes that hold no pointer and nothing of the system: it can be cloned, sent to another thread, and
+/// stored as bytes.
 ///
 /// Document 01's worked watch, `W 2 1`, `M 3200 1`, `M 9600 1`, `F`, `X`:
 ///
@@ -59,8 +60,9 @@ impl Station {
     /// One event.
     ///
     /// # Errors
-    /// [`Refusal::CountsFull`], and of a number that the event carries [`Refusal::DurationNotFinite`], [`Refusal::DurationTooShort`],
-    /// [`Refusal::DurationTooLong`] or [`Refusal::SpeedNotPositive`]. A refused call leaves the station as it was.
+    /// [`Refusal::CountsFull`], and of a number that the event carries [`Refusal::DurationNotFinite`],
+    /// [`Refusal::DurationTooShort`], [`Refusal::DurationTooLong`] or [`Refusal::SpeedNotPositive`]. A refused call
+    /// leaves the station as it was.
     ///
     /// ```
     /// use hullathan::{Event, Refusal, Station};
@@ -106,10 +108,12 @@ impl Station {
         events.into_iter().map(|event| self.call(event))
     }
 
-    /// The same answers by batches: each time that an answer is asked for and none is held, up to 64 events are taken and called at once.
+    /// The same answers by batches: each time that an answer is asked for and none is held, up to 64 events are taken
+    /// and called at once.
     ///
-    /// Each event has its answer, in order, and a refused one changes nothing: go on after it, and nothing is lost. Who leaves at the first refusal (with `?`, say)
-    /// loses answers: up to 63 events after it have been heard. To hear nothing after a refusal there is [`Station::calls`]. It holds one batch, of 10,248 bytes.
+    /// Each event has its answer, in order, and a refused one changes nothing: go on after it, and nothing is lost.
+    /// Who leaves at the first refusal (with `?`, say) loses answers: up to 63 events after it have been heard. To
+    /// hear nothing after a refusal there is [`Station::calls`]. It holds one batch, of 10,248 bytes.
     ///
     /// ```
     /// use hullathan::{Event, Station};
@@ -142,9 +146,9 @@ impl Station {
         Reading::of(&sys::read(&self.memory))
     }
 
-    /// The station's memory, to be stored. Two stations that are alike have the same bytes: what is no part of a station,
-    /// such as places beyond a count, holds zeros. (In one that was handed in by [`Station::from_bytes`] it holds what
-    /// stood there, until a call is accepted.)
+    /// The station's memory, to be stored. Two stations that are alike have the same bytes: what is no part of a
+    /// station, such as places beyond a count, holds zeros. (In one that was handed in by [`Station::from_bytes`] it
+    /// holds what stood there, until a call is accepted.)
     ///
     /// ```
     /// use hullathan::{Event, Station};

@@ -5,8 +5,8 @@
 //! declarations here are those of the library is not proved: version and sizes are compared before the first call
 //! ([`check`]), and `tests/layout.rs` asks the library for the place of each field.
 //!
-//! Every field is a whole number or a float, so there are no bytes that a struct cannot have. A flag is a byte 0 or 1. A
-//! pad is zeros.
+//! Every field is a whole number or a float, so there are no bytes that a struct cannot have. A flag is a byte 0 or
+//! 1. A pad is zeros.
 
 use std::arch::asm;
 use std::error::Error;
@@ -359,7 +359,11 @@ impl fmt::Display for Mismatch {
             linked,
             size,
         } = self;
-        write!(f, "the crate hullathan is for version {declared} of its library, and libhullathan.a has version {linked}")?;
+        write!(
+            f,
+            "the crate hullathan is for version {declared} of its library, "
+        )?;
+        write!(f, "and libhullathan.a has version {linked}")?;
         if let Some((name, ours, theirs)) = size {
             write!(f, ", where a {name} has {theirs} bytes and not {ours}")?;
         }
@@ -413,8 +417,8 @@ fn checked() {
     }
 }
 
-// Safety of each: the memory has the struct's size and alignment and is lent for the call; the library takes every byte
-// in it and keeps no pointer; and the archive is the one that is declared.
+// Safety of each: the memory has the struct's size and alignment and is lent for the call; the library takes every
+// byte in it and keeps no pointer; and the archive is the one that is declared.
 
 /// A fresh station in the memory, whatever stood there.
 pub fn start(s: &mut StationMemory, width: usize, switching: bool) -> u8 {

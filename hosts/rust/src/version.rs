@@ -1,10 +1,10 @@
 //! The version of the library.
 //!
 //! Structs change between versions, and an archive of another one would write where there is no room. So version and
-//! sizes are compared once, before the first call into the archive. Where they differ that call panics, and names both
-//! versions: the archive is linked into the program, so this is a fault of its build, the same at every run, which no
-//! receiver can mend while it listens and which is no refusal of document 01. A program that wants to say so itself asks
-//! [`check`] first:
+//! sizes are compared once, before the first call into the archive. Where they differ that call panics, and names
+//! both versions: the archive is linked into the program, so this is a fault of its build, the same at every run,
+//! which no receiver can mend while it listens and which is no refusal of document 01. A program that wants to say so
+//! itself asks [`check`] first:
 //!
 //! ```
 //! if let Err(mismatch) = hullathan::version::check() {

@@ -1,4 +1,5 @@
-//! The switch alone, with the primary and its serial lent: what a station's switch does; and nothing where it is refused.
+//! The switch alone, with the primary and its serial lent: what a station's switch does; and nothing where it is
+//! refused.
 
 mod random;
 #[allow(dead_code)]

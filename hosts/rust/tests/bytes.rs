@@ -68,8 +68,8 @@ fn starts() {
     }
 }
 
-/// After every event, accepted or refused, one by one and in batches: the pads are zeros, and both stations are the same
-/// bytes.
+/// After every event, accepted or refused, one by one and in batches: the pads are zeros, and both stations are the
+/// same bytes.
 #[test]
 fn calls() {
     let pads = pads();

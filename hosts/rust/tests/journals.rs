@@ -1,4 +1,5 @@
-//! The example journals of the repository through the station log, event by event and by batches, held to what they must print.
+//! The example journals of the repository through the station log, event by event and by batches, held to what they
+//! must print.
 
 #[allow(dead_code)]
 #[path = "../examples/station_log.rs"]

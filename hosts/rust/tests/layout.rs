@@ -1,6 +1,6 @@
 //! The structs lie as the library has them. Asked for its layout, the library fills each number with its place in its
-//! struct, from 1, a struct or an array taking one place too; in the last element of an array each number has 100 more,
-//! so the element before it and it tell the stride, which is the element's size. A pad is an array of bytes.
+//! struct, from 1, a struct or an array taking one place too; in the last element of an array each number has 100
+//! more, so the element before it and it tell the stride, which is the element's size. A pad is an array of bytes.
 
 #[allow(dead_code)]
 #[path = "../src/sys.rs"]

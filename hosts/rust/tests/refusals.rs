@@ -62,7 +62,8 @@ fn batch() -> sys::Batch {
     batch
 }
 
-/// Every function over bytes that may be no station's: they agree on that, and a refused call changes nothing. Whether they are a station's.
+/// Every function over bytes that may be no station's: they agree on that, and a refused call changes nothing.
+/// Whether they are a station's.
 fn tried(bytes: &StationMemory) -> bool {
     let sound = sys::read(bytes).code == 0;
     for event in events() {
@@ -181,7 +182,8 @@ fn stored_and_handed_back() {
     assert_eq!(station.read(), again.read());
 }
 
-/// "At a switch: a choice pending and the primary unready": not met by a reader, and yet refused when the bytes are handed in.
+/// "At a switch: a choice pending and the primary unready": not met by a reader, and yet refused when the bytes are
+/// handed in.
 #[test]
 fn pending_and_unready() {
     let mut bytes = *Station::default().as_bytes();

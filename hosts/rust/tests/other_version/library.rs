@@ -4,12 +4,6 @@
 #![no_std]
 
 use core::arch::asm;
-use core::panic::PanicInfo;
-
-#[panic_handler]
-fn panic(_: &PanicInfo) -> ! {
-    end()
-}
 
 /// Ends the program by a signal.
 fn end() -> ! {
