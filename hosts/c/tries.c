@@ -113,7 +113,8 @@ static int well_formed(const struct hullathan_answer *a)
     for (i = 0; i < a->left_len; i++) {
         if (a->left[i].cause > HULLATHAN_CLEARED)
             return 0;
-        now.left[i] = a->left[i];
+        now.left[i].serial = a->left[i].serial;
+        now.left[i].cause = a->left[i].cause;
     }
     now.left_len = a->left_len;
     return same_answer(a, &now);

@@ -119,3 +119,55 @@ fn pads_that_are_handed_in() {
         assert!(other.as_bytes() == usual.as_bytes());
     }
 }
+
+/// An event as the library has it.
+fn plain(event: Event) -> sys::Event {
+    let (kind, live, value) = match event {
+        Event::Mark { ms, live } => (0, live.into(), ms),
+        Event::Gap { ms } => (1, 0, ms),
+        Event::Finish => (2, 0, 0.0),
+        Event::Seed { wpm } => (3, 0, wpm),
+        Event::Hint { ratio } => (4, 0, ratio),
+        Event::Clear => (5, 0, 0.0),
+        Event::Switch => (6, 0, 0.0),
+    };
+    sys::Event {
+        kind,
+        live,
+        value,
+        pad_live: [0xAB; 2],
+    }
+}
+
+/// Every byte of what a call hands back is fixed too: zeros in pads, and beyond a count.
+#[test]
+fn answers_and_readings() {
+    let mut memory = Memory(*fresh().as_bytes());
+    let (mut left, mut logged) = (0, 0);
+    for event in Random::new(23).watch(6_000) {
+        let answer = sys::call(&mut memory, plain(event));
+        assert_eq!((answer.pad_code, answer.pad_dah_ms), ([0; 3], [0; 4]));
+        let (held, beyond) = answer.left.split_at(answer.left_len);
+        assert!(held.iter().all(|d| d.pad_cause == [0; 7]));
+        assert!(beyond.iter().all(|d| *d == sys::Departure::default()));
+        left += held.len();
+
+        let reading = sys::read(&memory);
+        assert_eq!(reading.pad_switching, [0; 4]);
+        let (held, beyond) = reading.log.split_at(reading.log_len);
+        assert!(held.iter().all(|r| r.pad_applied == [0; 7]));
+        assert!(beyond
+            .iter()
+            .all(|r| (r.mark_index, r.applied, r.pad_applied) == (0, 0, [0; 7])));
+        assert!(beyond
+            .iter()
+            .all(|r| r.from_dit_ms.to_bits() | r.to_dit_ms.to_bits() == 0));
+        logged = logged.max(held.len());
+        let beyond = &reading.rivals[reading.challengers..];
+        assert!(beyond
+            .iter()
+            .all(|r| r.serial == 0 && r.score.to_bits() == 0));
+    }
+    // so that there was something to see
+    assert!(left > 100 && logged > 3, "{left} left, {logged} in the log");
+}
