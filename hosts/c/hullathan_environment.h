@@ -9,7 +9,7 @@
  *     answer = hullathan_call(&station, HULLATHAN_MARK, 1, 50.0f);
  *     hullathan_environment_restore(saved);
  *
- * around one call or many; a test and a set take a few nanoseconds.
+ * around one call or many; the pair takes some tens of nanoseconds.
  */
 #ifndef HULLATHAN_ENVIRONMENT_H
 #define HULLATHAN_ENVIRONMENT_H

@@ -238,8 +238,7 @@ plain! {
     pub struct SenderReading {
         pub code: u8,
         pub has_ratio: u8,
-        pub has_word: u8,
-        pub pad_has_word: [u8; 1],
+        pub pad_has_ratio: [u8; 2],
         pub dit_ms: f32,
         pub ratio: f32,
         pub word_dits: f32,

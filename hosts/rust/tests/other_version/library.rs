@@ -1,5 +1,5 @@
-//! A library of another version, for `check`: linked in place of the proved one, it tells its version and its sizes, and
-//! nothing else of it may be called.
+//! A library of another version, for `check`: linked in place of the proved one, it tells its version and its sizes,
+//! and nothing else of it may be called.
 
 #![no_std]
 
