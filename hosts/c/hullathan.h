@@ -362,10 +362,11 @@ struct hullathan_sender {
 struct hullathan_sender_reading {
     unsigned char code;
     unsigned char has_ratio; /* flag: three dots and three dashes were observed */
-    unsigned char pad_has_ratio[2];
+    unsigned char has_word;  /* flag: a character gap was observed */
+    unsigned char pad_has_word[1];
     float dit_ms;    /* as it was handed in */
     float ratio;     /* a dash by a dot; 0 where has_ratio is 0. A good hint for a station */
-    float word_dits; /* a gap from here on parts words: 3 to 12 dits; 0 where no character gap was observed */
+    float word_dits; /* a gap from here on parts words: 3 to 12 dits; 0 where has_word is 0 */
     struct hullathan_class_stats dot; /* zeros where n is 0; so the other four */
     struct hullathan_class_stats dash;
     struct hullathan_class_stats element_gap;

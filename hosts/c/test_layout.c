@@ -266,7 +266,8 @@ SHAPE(sender, 5)
 static const struct field sender_reading_fields[] = {
     ONE(sender_reading, U8, code),
     ONE(sender_reading, U8, has_ratio),
-    MANY(sender_reading, U8, pad_has_ratio),
+    ONE(sender_reading, U8, has_word),
+    MANY(sender_reading, U8, pad_has_word),
     ONE(sender_reading, float, dit_ms),
     ONE(sender_reading, float, ratio),
     ONE(sender_reading, float, word_dits),
@@ -276,7 +277,7 @@ static const struct field sender_reading_fields[] = {
     HELD(sender_reading, class_stats, char_gap),
     HELD(sender_reading, class_stats, word_gap),
 };
-SHAPE(sender_reading, 11)
+SHAPE(sender_reading, 12)
 
 /* ---- the tables leave out nothing: every byte of a struct belongs to a field that has a name */
 

@@ -81,10 +81,12 @@ static struct hullathan_sender_reading reading_of(const struct hullathan_sender 
         r.has_ratio = 1;
         r.ratio = t->dash.mean / t->dot.mean;
     }
-    if (t->char_gap.n > 0)
+    if (t->char_gap.n > 0) {
+        r.has_word = 1;
         r.word_dits = clamp(3, 12,
                             t->word_gap.n > 0 ? root(t->char_gap.mean * t->word_gap.mean)
                                               : t->char_gap.mean * root(7.0f / 3.0f));
+    }
     r.dot = shown(t->dot);
     r.dash = shown(t->dash);
     r.element_gap = shown(t->element_gap);
@@ -230,7 +232,7 @@ static void by_hand(void)
     hullathan_sender_start(&t);
     expect(memcmp(&t, &zeros, sizeof t) == 0, "a start is all zeros");
     r = hullathan_sender_read(&t, 50);
-    expect(r.code == 0 && !r.has_ratio && r.word_dits == 0 && r.dit_ms == 50, "nothing is known yet");
+    expect(r.code == 0 && !r.has_ratio && !r.has_word && r.dit_ms == 50, "nothing is known yet");
     for (i = 0; i < 3; i++) {
         hullathan_sender_observe(&t, HULLATHAN_DOT, 40, 40);
         expect(!hullathan_sender_read(&t, 40).has_ratio, "three of both make a ratio");

@@ -147,7 +147,7 @@ impl Sender {
         SenderReading {
             dit: Millis(r.dit_ms),
             ratio: (r.has_ratio != 0).then_some(r.ratio),
-            word: (r.word_dits > 0.0).then_some(Dits(r.word_dits)),
+            word: (r.has_word != 0).then_some(Dits(r.word_dits)),
             classes: [&r.dot, &r.dash, &r.element_gap, &r.char_gap, &r.word_gap].map(class_reading),
         }
     }

@@ -238,7 +238,8 @@ plain! {
     pub struct SenderReading {
         pub code: u8,
         pub has_ratio: u8,
-        pub pad_has_ratio: [u8; 2],
+        pub has_word: u8,
+        pub pad_has_word: [u8; 1],
         pub dit_ms: f32,
         pub ratio: f32,
         pub word_dits: f32,
