@@ -56,9 +56,9 @@ module _ (first : Journal) (b : viewed first ≡ start) (w : Went) (r : Reads fi
   after : viewed (w .journal) ≡ feed standard start (r .bytes) .journal
   after = r .journal ∙ ap (λ (j : Pieces.Journal). feed standard j (r .bytes) .journal) b
 
-  all-served : (v : Went) → v .journal ≡ w .journal → (was is : List ℕ)
+  all-served : (v : Went) → v .journal ≡ w .journal → v .more ≡ false → (was is : List ℕ)
       → (v .well ≡ true → is ≡ over (end (viewed (v .journal))) was) → Serves is v
-  all-served v e was is o =
+  all-served v e z was is o =
       let now = ap viewed e ∙ after in
       record {
         bytes = r .bytes;
@@ -66,6 +66,7 @@ module _ (first : Journal) (b : viewed first ≡ start) (w : Went) (r : Reads fi
         whole = ap (λ (j : Pieces.Journal). feed standard start (r .bytes) .put ++ end j) now
             ∙ output-is standard (r .bytes);
         spent = λ l. nothing-lost standard (r .bytes) (sym (ap (λ (j : Pieces.Journal). j .left) now) ∙ l);
+        stops = z;
         was = was;
         out = o;
       }
@@ -73,12 +74,12 @@ module _ (first : Journal) (b : viewed first ≡ start) (w : Went) (r : Reads fi
   -- what was written could be written, and then the end too
   pub served : (was is : List ℕ) (v : Went) → Closes w was is v → Serves is v
   served was is v c =
-      all-served v (c .journal) was is
+      all-served v (c .journal) (c .stops) was is
       (λ a. c .out ∙ ap (λ (j : Journal). over (end (viewed j)) was) (sym (c .journal)))
 
   -- it could not
   pub unserved : w .well ≡ false → (is : List ℕ) → Serves is w
-  unserved e is = all-served w refl [] is (λ a. absurd (false≢true (sym e ∙ a)))
+  unserved e is = all-served w refl (r .stops) [] is (λ a. absurd (false≢true (sym e ∙ a)))
 
 pub start-left : (first : Journal) → viewed first ≡ start → 0 < first .left
 start-left first b = let e = ap (λ (j : Pieces.Journal). j .left) b in omega arith

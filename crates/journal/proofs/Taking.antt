@@ -130,8 +130,8 @@ module _ (j₀ : Journal) (buffer₀ out₀ buffer out : List ℕ) (j : Journal)
     }
 
     pub read-ends : w .more ≡ false → Reads j₀ w
-    read-ends m = record { bytes = k .bytes ++ more .bytes; journal = after; all = λ a. m; goes = more .goes }
+    read-ends m = record { bytes = k .bytes ++ more .bytes; journal = after; stops = m; goes = more .goes }
 
   -- no run gets there
-  pub read-stops : Reads j₀ (record { journal = j; more = true; well = false })
-  read-stops = record { bytes = k .bytes; journal = k .journal; all = λ a. absurd (false≢true a); goes = k .goes }
+  pub read-stops : Reads j₀ (record { journal = j; more = false; well = false })
+  read-stops = record { bytes = k .bytes; journal = k .journal; stops = refl; goes = k .goes }

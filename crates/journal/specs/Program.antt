@@ -54,16 +54,17 @@ pub record Read (j : Journal) (buffer : List ℕ) (r : Went) : Type 0 where
   pub moved : Moved (length buffer) got
   pub took : Took j got buffer r
 
--- all reads: the journal is the one after the bytes that they left; where all went well, there is no more to read
+-- all reads: the journal is the one after the bytes that they left, and there is no more to read
 pub record Reads (j : Journal) (r : Went) : Type 0 where
   pub bytes : List ℕ
   pub journal : viewed (r .journal) ≡ feed standard (viewed j) bytes .journal
-  pub all : r .well ≡ true → r .more ≡ false
+  pub stops : r .more ≡ false
   pub goes : Goes (r .journal)
 
 -- the end: what is written then, at the front of the buffer
 pub record Closes (w : Went) (was is : List ℕ) (r : Went) : Type 0 where
   pub journal : r .journal ≡ w .journal
+  pub stops : r .more ≡ false
   pub out : is ≡ over (end (viewed (w .journal))) was
 
 -- The whole run, that left the buffer so: what was handed to be written for the bytes that were read, and then the end,
@@ -73,5 +74,6 @@ pub record Serves (is : List ℕ) (r : Went) : Type 0 where
   pub journal : viewed (r .journal) ≡ feed standard start bytes .journal
   pub whole : feed standard start bytes .put ++ end (viewed (r .journal)) ≡ output standard bytes
   pub spent : r .journal .left ≡ 0 → (more : List ℕ) → output standard (bytes ++ more) ≡ output standard bytes
+  pub stops : r .more ≡ false
   pub was : List ℕ
   pub out : r .well ≡ true → is ≡ over (end (viewed (r .journal))) was

@@ -148,7 +148,7 @@ fn run(j: Journal, buffer: &mut [u8], out: &mut [u8]) -> Went
     }
     Went {
         journal,
-        more: true,
+        more: false,
         well: false,
     }
 }
