@@ -57,6 +57,9 @@ pub struct Bank {
 }
 
 /// One that left; why: 0 twin, 1 outscored, 2 aged, 3 replaced, 4 cleared.
+/// The most that leave in one call.
+const LEFT: usize = 7;
+
 #[repr(C)]
 #[derive(Debug, Clone, Copy, Default, PartialEq)]
 pub struct Departure {
@@ -69,7 +72,7 @@ pub struct Departure {
 pub struct Answered {
     pub code: u8,
     pub bank: Bank,
-    pub left: [Departure; 9],
+    pub left: [Departure; LEFT],
     pub left_len: usize,
 }
 
@@ -128,7 +131,7 @@ pub struct Lent {
 #[derive(Debug, Clone, Copy)]
 pub struct Changed {
     pub bank: Bank,
-    pub left: [Departure; 9],
+    pub left: [Departure; LEFT],
     pub left_len: usize,
 }
 
