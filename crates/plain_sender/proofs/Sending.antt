@@ -19,7 +19,7 @@ use Rattle.sender.specs.Model.{Class, Timing, at, sampled, statsOf, view, viewC
 use Rattle.sender.specs.Sound.{sound}
 use Rattle.sender.specs.Steps.{dits, observed, observedClass}
 use Rattle.sender.specs.Steps as Steps
-use Rattle.sender.specs.Answers.{Answer, Left, done, length, ratio, ditRefusal, firstOf, observeRefusal, optional, ratioSaid, stateRefusal, unless, wordSaid}
+use Rattle.sender.specs.Answers.{Answer, Left, done, inDits, ratio, ditRefusal, firstOf, observeRefusal, optional, ratioSaid, stateRefusal, unless, wordSaid}
 use Rattle.plain_tracker.specs.Plain.{zeros}
 use Rattle.plain_sender.specs.Plain.{Observes, classOf, coded, has, orNought, plainClass, readingOf, sentRefusal, withClass}
 use Rattle.plain_sender.specs.Parts.{numberIn, refusalIn, saidIn}
