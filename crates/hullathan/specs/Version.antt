@@ -59,7 +59,7 @@ abbrev pub sender : ℕ
 sender = 5 * stats
 
 abbrev pub sender-reading : ℕ
-sender-reading = 1 + 1 + 2 + 4 + 4 + 4 + 5 * stats
+sender-reading = 1 + 1 + 1 + 1 + 4 + 4 + 4 + 5 * stats
 
 -- how long a struct is, by its number; 0 where none has it
 abbrev pub sizeOf : ℕ → ℕ
