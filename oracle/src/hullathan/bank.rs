@@ -65,9 +65,6 @@ pub struct Bank {
 }
 
 /// One that left; why: 0 twin, 1 outscored, 2 aged, 3 replaced, 4 cleared.
-/// The most that leave in one call.
-const LEFT: usize = 7;
-
 #[repr(C)]
 #[derive(Debug, Clone, Copy, Default, PartialEq)]
 pub struct Departure {
