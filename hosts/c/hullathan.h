@@ -145,8 +145,8 @@ struct hullathan_pair {
     float init[HULLATHAN_START_MARKS];
     size_t init_len;
     unsigned char ready;
-    unsigned char confirmed;         /* flag: dit and dah both come from marks */
-    unsigned char placeholder_is_lo; /* flag: where not, it is the dit that was assumed, as a third of the dah */
+    unsigned char confirmed;         /* flag: neither was only assumed: two lengths were heard, or it was seeded */
+    unsigned char placeholder_is_lo; /* says something only while confirmed is 0: 1 the dit was assumed, 0 the dah */
     unsigned char pad_placeholder_is_lo[5];
     size_t lo_n; /* start marks that made the dit; any number is sound */
 };

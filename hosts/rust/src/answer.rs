@@ -13,7 +13,8 @@ pub enum Code {
     BecameReady = 1,
     /// A rival took over.
     Switched = 2,
-    /// Nothing to do: a finish that found no lock to make, or a switch with no choice pending.
+    /// Nothing to do: a finish that found no lock to make, or a switch with no choice pending
+    /// or with switching off.
     Nothing = 3,
 }
 
