@@ -18,7 +18,7 @@
  *   width       how many readings a station has room for, the primary among them: 1 to 8. Of width 1 it has no rivals.
  *   score       how well the last marks and gaps fit a reading, older ones counting less and less: 0 is best, -30
  *               worst. The gap score is that of the gaps alone.
- *   twin        a rival whose dit and dah have come close to the primary's. It leaves at the next mark.
+ *   twin        a rival whose dit and dah have come close to the primary's. It leaves at the mark that made it one.
  *   choice      the rival that may take over, if there is one: chosen at each mark by its score.
  *   switch      the chosen rival becomes the primary, and the former primary a rival in its place.
  *   serial      the number of a reading. That of the first primary is 0, each rival put into the bank gets the next.
@@ -449,7 +449,7 @@ unsigned char hullathan_start(struct hullathan_station *s, size_t width, unsigne
  * call; gaps do not end it. So ask after a mark and before the next one, where the decoder can bear another dit: once
  * the gap tells that a letter has ended (two dits or more), or a word. Asked after each mark, one letter may be read by
  * two dits; never asked, the primary stays whatever the scores. Where there is no choice the question costs what any
- * call costs at least, some microseconds for the test that the station is sound; in a batch next to nothing. With
+ * call costs at least, about a microsecond for the test that the station is sound; in a batch next to nothing. With
  * switching off the answer is always 3, and the switch that would have been made is put into the log, once for each
  * lead. The rule:
  *

@@ -1,4 +1,4 @@
-// The functions that C and Rust link. Each copies out of the host's memory, calls a function by value, and stores what that hands back.
+// The functions of a station that C and Rust link. Each copies out of the host's memory, calls a function by value, and stores what that hands back.
 use crate::PlainAnswer;
 use crate::PlainBatch;
 use crate::PlainReading;

@@ -54,7 +54,8 @@ pub record Read (j : Journal) (buffer : List ℕ) (r : Went) : Type 0 where
   pub moved : Moved (length buffer) got
   pub took : Took j got buffer r
 
--- all reads: the journal is the one after the bytes that they left, and there is no more to read
+-- all reads: the journal is the one after some bytes, and there is no more to read. No contract can say that these are
+-- all that was read: a run that began every read at j would meet this too, and only its test refuses it
 pub record Reads (j : Journal) (r : Went) : Type 0 where
   pub bytes : List ℕ
   pub journal : viewed (r .journal) ≡ feed standard (viewed j) bytes .journal
@@ -67,8 +68,9 @@ pub record Closes (w : Went) (was is : List ℕ) (r : Went) : Type 0 where
   pub stops : r .more ≡ false
   pub out : is ≡ over (end (viewed (w .journal))) was
 
--- The whole run, that left the buffer so: what was handed to be written for the bytes that were read, and then the end,
--- are the output that document 01 defines. Where no line may be read any more, what was not read has no answer.
+-- The whole run, that left the buffer so: for some bytes, the journal is the one after them. What `feed` puts for them,
+-- and then the end, are the output that document 01 defines; and where no line may be read any more, what was not read
+-- has no answer.
 pub record Serves (is : List ℕ) (r : Went) : Type 0 where
   pub bytes : List ℕ
   pub journal : viewed (r .journal) ≡ feed standard start bytes .journal

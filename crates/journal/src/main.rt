@@ -117,7 +117,7 @@ fn take(j: Journal, got: isize, buffer: &[u8], out: &mut [u8]) -> Went
     answer_front(j, io::count(got, buffer), buffer, out)
 }
 
-// Reads once, and answers what came. Where no line may be read any more, nothing is read.
+// Reads once, and answers what came. It is asked only while a line may be read.
 fn read_some(j: Journal, buffer: &mut [u8], out: &mut [u8]) -> Went
     requires { ⌜ Goes j ⌝ }
     requires { ⌜ 0 < j .left ⌝ }

@@ -55,7 +55,7 @@ pub fn ln_of(v: f32) -> f32
     ensures { λ r. ⌜ r ≡ lnOf v ⌝ }
 {
     let k = lead_of(v);
-    // of one number twice, which the compiler works out once
+    // of one number twice: one text of the digits
     let t = two_digits(k.y, k.y);
     log_from(k.e, t.a)
 }

@@ -1,5 +1,5 @@
-// Roots, rounding and the logarithm of document 01, over whole numbers: the one float product that a result rests on,
-// in `root::pattern_below`, is exact.
+// Roots, rounding and the logarithm of document 01, over whole numbers: the only float products that a result rests
+// on, those of `root::pattern_below`, are exact.
 pub mod inner;
 pub mod log;
 pub mod root;

@@ -14,7 +14,7 @@ use Rattle.pair.specs.Lock.{constrained}
 abbrev pub ofPattern : ℕ → Float
 ofPattern b = ofBits binary32 b
 
--- a lock whose dah is as long as its dit, so that the constraints mend the dah
+-- a pair whose dah is as long as its dit: no lock gives one, but the constraints look at dit and dah alone
 abbrev pub level : Float → Pair
 level dit = record { lo = dit; hi = dit; init = []; ready = true; confirmed = true; placeholderIsLo = false; loN = 1 }
 

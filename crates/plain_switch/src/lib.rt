@@ -23,7 +23,8 @@ pub struct BankExchanged {
     pub serial: u64,
 }
 
-// The answer k in plain form: what a host handed in stays where nothing was exchanged.
+// The answer k in plain form: the tracker and its serial stay where nothing was exchanged, and all three where the
+// call is refused.
 pub(crate) fn told(b: PlainBank, p: PlainTracker, serial: u64, k: Switched) -> BankExchanged
     requires { ⌜ refusalIn (k .flag) ≤ 2 ⌝ }
     ensures { λ r. ⌜ r ≡ toldAs b p serial k (k .flag) ⌝ }
