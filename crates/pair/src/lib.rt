@@ -3,7 +3,7 @@ pub mod inner;
 
 // Two centroids, and the start marks while there are none.
 #[repr(C)]
-#[derive(Drop)]
+#[derive(Clone, Copy)]
 pub struct ClusterPair {
     pub lo: f32,
     pub hi: f32,

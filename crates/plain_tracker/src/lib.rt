@@ -6,7 +6,7 @@ pub mod to;
 
 // Two centroids, and the start marks while there are none: the fields of `ClusterPair`.
 #[repr(C)]
-#[derive(Drop)]
+#[derive(Clone, Copy)]
 pub struct PlainPair {
     pub lo: f32,
     pub hi: f32,
@@ -21,7 +21,7 @@ pub struct PlainPair {
 
 // One mark of the ring: the fields of `RingEntry`.
 #[repr(C)]
-#[derive(Drop)]
+#[derive(Clone, Copy)]
 pub struct PlainEntry {
     pub dur_ms: f32,
     pub assigned_dit: u8,
@@ -32,7 +32,7 @@ pub struct PlainEntry {
 
 // A tracker: the fields of `SpeedTracker`.
 #[repr(C)]
-#[derive(Drop)]
+#[derive(Clone, Copy)]
 pub struct PlainTracker {
     pub pair: PlainPair,
     pub ring: [PlainEntry; 12],
