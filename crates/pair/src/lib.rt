@@ -1,4 +1,6 @@
 // The pair of centroids of document 01, "ClusterPair and SpeedTracker".
+#![tactic(auto)]
+
 pub mod inner;
 
 // Two centroids, and the start marks while there are none.

@@ -15,10 +15,10 @@ pub returns-then-is_sound : goal.returns-then-is_sound
 returns-then-is_sound c =
     let a = c.args in
     let e = c.sender_word_dits.ensures ∙ said_sound (view a.self) (word_said (view a.self)) (sym c.is_sound.ensures ∙ c.if-is_sound.true) in
-    (record { result_value = e; fact = λ x q. word_said_in (view a.self) x (sym e ∙ q) })
+    record { result_value = e; fact = λ x q. word_said_in (view a.self) x (sym e ∙ q) }
 
 pub returns : goal.returns
 returns c =
     let a = c.args in
     let e = said_unsound (view a.self) (word_said (view a.self)) (sym c.is_sound.ensures ∙ c.if-is_sound.false) in
-    (record { result_value = e; fact = λ x q. word_said_in (view a.self) x (sym e ∙ q) })
+    record { result_value = e; fact = λ x q. word_said_in (view a.self) x (sym e ∙ q) }

@@ -8,13 +8,13 @@ use Rattle.sender.proofs.Readings.{few_dots, few_dashes, ratio_of}
 use Rattle.sender.proofs.inner.dash_dot_ratio.Goals as goal
 
 pub returns-then-dot-lt3 : goal.returns-then-dot-lt3
-returns-then-dot-lt3 c = let s = c.args.s in sym (ap (optional ratio) (few_dots s.dot-1 (view_class s.dash-1) c.if-dot-lt3.true))
+returns-then-dot-lt3 c = let s = c.args.s in sym (ap (optional ratio) (few_dots s.dot (view_class s.dash) c.if-dot-lt3.true))
 
 pub returns-then-dash-lt3 : goal.returns-then-dash-lt3
-returns-then-dash-lt3 c = let s = c.args.s in sym (ap (optional ratio) (few_dashes s.dash-1 (view_class s.dot-1) c.if-dash-lt3.true))
+returns-then-dash-lt3 c = let s = c.args.s in sym (ap (optional ratio) (few_dashes s.dash (view_class s.dot) c.if-dash-lt3.true))
 
 pub returns : goal.returns
 returns c =
     let b = c.before.before.before.before.before.before.before.before in
     let s = b.args.s in
-    sym (ap (optional ratio) (ratio_of s.dot-1 s.dash-1 (sound_at Dot (view s) b.requires) (sound_at Dash (view s) b.requires) c.if-dot-lt3.false c.if-dash-lt3.false))
+    sym (ap (optional ratio) (ratio_of s.dot s.dash (sound_at Dot (view s) b.requires) (sound_at Dash (view s) b.requires) c.if-dot-lt3.false c.if-dash-lt3.false))

@@ -15,10 +15,10 @@ pub returns-then-known-eq0 : goal.returns-then-known-eq0
 returns-then-known-eq0 c =
     let b = c.before.before in
     let r = b.stats-known.result in
-    sym (ap said (none_at r.mean-1.0 r.var r.n c.if-known-eq0.true)) ∙ ap said (ap view_class b.stats-known.ensures ∙ at_view b.args.class b.args.s)
+    sym (ap said (none_at r.mean.0 r.var r.n c.if-known-eq0.true)) ∙ ap said (ap view_class b.stats-known.ensures ∙ at_view b.args.class b.args.s)
 
 pub returns : goal.returns
 returns c =
     let b = c.before.before.before in
     let r = b.stats-known.result in
-    sym (ap said (some_at r.mean-1.0 r.var r.n c.if-known-eq0.false)) ∙ ap said (ap view_class b.stats-known.ensures ∙ at_view b.args.class b.args.s)
+    sym (ap said (some_at r.mean.0 r.var r.n c.if-known-eq0.false)) ∙ ap said (ap view_class b.stats-known.ensures ∙ at_view b.args.class b.args.s)

@@ -7,20 +7,16 @@ use Rattle.ranges.specs.Settings.{standard}
 use Rattle.pair.specs.Model.{view_pair}
 use Rattle.marks.proofs.Places.{put_end, as_many}
 use Rattle.pair.proofs.Starting.{fifth, fifth_in, started_locks, started_keeps}
-use Rattle.pair.proofs.inner.pair.start.Statement.{statement}
-use Rattle.pair.proofs.inner.pair.start.Tie as tie
+use Rattle.pair.proofs.inner.pair.start.Goals as goal
 
-array-write-init : tie.Need-array-write-init
-array-write-init c = search rules
-
-initialize-requires : tie.Need-initialize-requires
-initialize-requires c κs =
+pub initialize-requires : goal.initialize-requires
+initialize-requires c =
     let s = c.before.before in
     let l : length s.args.p.init ≡ 12 = search rules in
-    ((search rules, search rules), fifth_in s.args.p.init s.args.p.init_len s.args.v (omega arith) l s.pre.1.0 s.pre.1.1)
+    record { le_n = (search rules, search rules); all_in = fifth_in s.args.p.init s.args.p.init_len s.args.v (omega arith) l s.requires.all_in s.requires.fact }
 
-returns : tie.Need-returns
-returns c =
+pub returns-then-n-eq4 : goal.returns-then-n-eq4
+returns-then-n-eq4 c =
     let s = c.before.before.before in
     let i = s.args.p.init in
     let n = s.args.p.init_len in
@@ -29,11 +25,8 @@ returns c =
     let z = c.initialize.ensures.1 in
     (started_locks standard (view_pair s.args.p) s.args.v _ _ (omega arith) (fifth i n s.args.v (omega arith) l) c.initialize.ensures.0, omega arith)
 
-mul-q : tie.Need-mul-q
-mul-q c = search rules
-
-element-write-q : tie.Need-element-write-q
-element-write-q c =
+pub bounds-q-n : goal.bounds-q-n
+bounds-q-n c =
     let s = c.before in
     let i = s.args.p.init in
     let n = s.args.p.init_len in
@@ -41,19 +34,11 @@ element-write-q c =
     let g = as_many i n (omega arith) in
     omega arith
 
-add-q : tie.Need-add-q
-add-q c = search rules
-
-returns-2 : tie.Need-returns-2
-returns-2 c =
+pub returns : goal.returns
+returns c =
     let s = c.before in
     let i = s.args.p.init in
     let n = s.args.p.init_len in
     let l : length i ≡ 12 = search rules in
     let g = as_many i n (omega arith) in
     (started_keeps standard (view_pair s.args.p) s.args.v _ (omega arith) (put_end i n s.args.v (omega arith)), omega arith)
-
-pub start_spec : {M : Type 1} → statement M
-start_spec =
-    tie.close
-    (tie.spec array-write-init initialize-requires returns mul-q element-write-q add-q returns-2)
