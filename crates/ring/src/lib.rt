@@ -1,4 +1,6 @@
 // The ring of the last twelve marks (document 01, "ClusterPair and SpeedTracker": drift and fragment recovery).
+#![tactic(auto)]
+
 pub mod inner;
 
 // One mark of the ring: its length, whether it was classed a dit, and both centroids as they stood before it.
