@@ -1,4 +1,6 @@
 // The speed tracker of document 01, "ClusterPair and SpeedTracker".
+#![tactic(auto)]
+
 pub mod calls;
 pub mod inner;
 
