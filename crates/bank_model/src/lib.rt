@@ -1,4 +1,6 @@
 // What the bank of rivals is made of, below its state: where a hypothesis came from, how one leaves, what a switch leaves in the log.
+#![tactic(auto)]
+
 pub mod inner;
 
 // Where a hypothesis came from; a former primary has marks of protection left.

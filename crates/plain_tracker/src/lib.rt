@@ -1,5 +1,7 @@
 // A tracker with numbers in place of flags, as a host in C or Rust holds it, and the way there and back. A flag is 0 or 1.
 // What lies beyond a count, or is marked absent, is no part of the state: the way there leaves it empty.
+#![tactic(auto)]
+
 pub mod from;
 pub mod is;
 pub mod to;
