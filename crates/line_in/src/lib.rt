@@ -1,4 +1,6 @@
 // One line of the journal, read into an entry (document 01, "Journal program").
+#![tactic(auto)]
+
 ghost use Rattle.std.specs.Prelude.{◌≡◌};
 ghost use Rattle.line_in.specs.Form.{entry};
 

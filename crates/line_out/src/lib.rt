@@ -1,4 +1,6 @@
 // Writing an output line of the journal (document 01, "Journal program").
+#![tactic(auto)]
+
 ghost use Rattle.std.specs.Prelude.{◌≡◌, cond, length};
 ghost use Rattle.line_out.specs.Shown.{line};
 ghost use Rattle.line_out.specs.Written.{over, roomy};

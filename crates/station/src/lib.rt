@@ -1,4 +1,6 @@
 // The station of document 01, "Station": a primary tracker, the bank of its rivals, and the books of who came and left.
+#![tactic(auto)]
+
 use bank::{Place, TimingBank};
 use bank_model::{Departure, MOST_LEFT};
 use station_model::{Code, Counts};

@@ -1,0 +1,13 @@
+-- `line_in::values::number_of` meets its contract. The first i digits are read, and make n. Assumes nothing.
+use mathlib.Core.Path.{sym}
+use Prim.Native.Nat.{◌-◌}
+use native.Mathlib.Omega.{arith}
+use lib.ListN.{length}
+use Rattle.line_in.proofs.Numbers.{Read, begin, next, room, empty, long, below, above, ended}
+use Rattle.line_in.proofs.values.number_of.Given as goal
+
+abbrev pub invariant-loop-i : goal.invariant-loop-i
+invariant-loop-i l = Read l.field l.n l.i
+
+abbrev pub decreases-loop-i : goal.decreases-loop-i
+decreases-loop-i l = length l.field - l.i

@@ -1,0 +1,11 @@
+-- `line_out::inner::glyph` meets its contract. Assumes nothing.
+use native.Mathlib.Omega.{arith}
+use borrow.Author.Rules.{rules}
+use borrow.Author.Tests.{lt-ltb, le-ltb}
+use Rattle.line_out.proofs.inner.glyph.Goals as goal
+
+pub returns-then-d-lt10 : goal.returns-then-d-lt10
+returns-then-d-lt10 c = rw (lt-ltb _ _ c.if-d-lt10.true)
+
+pub returns-else-d-lt10 : goal.returns-else-d-lt10
+returns-else-d-lt10 c = rw (le-ltb _ _ c.if-d-lt10.false) (omega arith)

@@ -1,0 +1,12 @@
+-- `station::Station::dit_estimate_ms` meets its contract. Assumes nothing.
+use mathlib.Core.Path.{ap, sym, ◌∙◌}
+use Rattle.station.proofs.Answering.{reads, reads_not}
+use Rattle.tracker.specs.Answers.{number}
+use borrow.Author.Rules.{rules}
+use Rattle.station.proofs.Station.dit_estimate_ms.Goals as goal
+
+pub returns-then-is_sound : goal.returns-then-is_sound
+returns-then-is_sound c = reads c.args.self _ _ (sym c.is_sound.ensures.0 ∙ c.if-is_sound.true) (ap number c.dit_estimate.ensures)
+
+pub returns : goal.returns
+returns c = reads_not c.args.self _ (sym c.is_sound.ensures.0 ∙ c.if-is_sound.false)

@@ -1,0 +1,7 @@
+-- `station::inner::call::next` meets its contract. Assumes nothing.
+use Rattle.station.proofs.Steadying.{steady_next}
+use borrow.Author.Rules.{rules}
+use Rattle.station.proofs.inner.call.next.Goals as goal
+
+pub returns : goal.returns
+returns c = steady_next c.args.s c.args.e c.call.result c.requires c.call.ensures
