@@ -1,5 +1,7 @@
 // A sender's statistics as a host in C or Rust has them: a class is its number, 0 to 4, and a refusal 128 and its number. The statistics are
 // plain numbers as they are: no flag stands in them, and no byte between them.
+#![tactic(auto)]
+
 ghost use Rattle.std.specs.Prelude.{◌≡◌, T, ◌≤◌};
 ghost use Rattle.std.proofs.Math.Option.{none};
 ghost use Rattle.sender.specs.Model.{view, view_class};

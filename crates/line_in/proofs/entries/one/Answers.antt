@@ -12,4 +12,4 @@ pub returns-in-88 : goal.returns-in-88
 returns-in-88 c = rw c.in-88.is
 
 pub returns-in_default : goal.returns-in_default
-returns-in_default c = rw (ne_eqb _ 70 c.in_default-own.rest.0.0.1, ne_eqb _ 67 c.in_default-own.rest.0.1, ne_eqb _ 88 c.in_default-own.rest.1)
+returns-in_default c = rw (ne_eqb _ 70 c.in_default.in_default-own.rest.0.0.1, ne_eqb _ 67 c.in_default.in_default-own.rest.0.1, ne_eqb _ 88 c.in_default.in_default-own.rest.1)

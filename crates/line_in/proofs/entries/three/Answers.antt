@@ -10,4 +10,4 @@ pub returns-in-77 : goal.returns-in-77
 returns-in-77 c = rw (c.in-77.is, c.duration.ensures)
 
 pub returns-in_default : goal.returns-in_default
-returns-in_default c = rw (ne_eqb _ 87 c.in_default-own.rest.0.1, ne_eqb _ 77 c.in_default-own.rest.1)
+returns-in_default c = rw (ne_eqb _ 87 c.in_default.in_default-own.rest.0.1, ne_eqb _ 77 c.in_default.in_default-own.rest.1)

@@ -13,4 +13,4 @@ pub returns-in-72 : goal.returns-in-72
 returns-in-72 c = rw (c.in-72.is, c.ratio.ensures)
 
 pub returns-in_default : goal.returns-in_default
-returns-in_default c = rw (ne_eqb _ 71 c.in_default-own.rest.0.0.1, ne_eqb _ 83 c.in_default-own.rest.0.1, ne_eqb _ 72 c.in_default-own.rest.1)
+returns-in_default c = rw (ne_eqb _ 71 c.in_default.in_default-own.rest.0.0.1, ne_eqb _ 83 c.in_default.in_default-own.rest.0.1, ne_eqb _ 72 c.in_default.in_default-own.rest.1)

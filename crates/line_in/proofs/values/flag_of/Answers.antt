@@ -14,4 +14,4 @@ pub returns-in-49 : goal.returns-in-49
 returns-in-49 c = sym (on _ c.if-field-ne1.false c.in-49.is)
 
 pub returns-in_default : goal.returns-in_default
-returns-in_default c = sym (neither _ c.if-field-ne1.false c.in_default-own.rest.0.1 c.in_default-own.rest.1)
+returns-in_default c = sym (neither _ c.if-field-ne1.false c.in_default.in_default-own.rest.0.1 c.in_default.in_default-own.rest.1)
