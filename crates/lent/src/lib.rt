@@ -1,4 +1,6 @@
 // The switch call with the host's own tracker lent (document 01, "TimingBank").
+#![tactic(auto)]
+
 ghost use Rattle.ranges.specs.Settings.{standard};
 ghost use Rattle.tracker.specs.Model as Tracked;
 ghost use Rattle.bank_model.specs.Steps.{take_switch};

@@ -1,5 +1,7 @@
 // A station with numbers in place of enums and flags, as a host in C or Rust holds it, and the way there and back.
 // What lies beyond a count, or is marked absent, is no part of the state: the way there leaves it empty.
+#![tactic(auto)]
+
 use plain::PlainBank;
 use plain_tracker::PlainTracker;
 

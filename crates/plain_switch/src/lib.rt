@@ -1,4 +1,6 @@
 // The switch call on a bank and on the tracker that a host lends, both in plain form (document 01, "TimingBank").
+#![tactic(auto)]
+
 ghost use Rattle.std.specs.Prelude.{◌≡◌, ◌≤◌};
 ghost use Rattle.plain_switch.specs.Switch.{Exchanges};
 ghost use Rattle.plain_switch.specs.Parts.{refusal_in, told_as};
