@@ -1,11 +1,9 @@
 -- What equals itself is a number. Assumes nothing.
-use mathlib.Core.Path.{◌≡◌, sym}
-use mathlib.Core.Bool.{true, false, not, false≢true}
-use lib.Dec.{T}
-use lib.Ieee.{Float, nan, inf, fin, is_nan, ne, eq}
+use Rattle.std.proofs.Common.{◌≡◌, false, not, T, true≢false}
+use Rattle.std.specs.Float.Ieee.{Float, nan, inf, fin, is_nan, ne, eq}
 
 pub number : (v : Float) → ne v v ≡ false → T (not (is_nan v))
 unfolding ne eq is_nan
-number nan h = absurd (false≢true (sym h))
+number nan h = absurd (true≢false h)
 number (inf s) h = tt
 number (fin s m e) h = tt

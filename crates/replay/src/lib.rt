@@ -1,12 +1,25 @@
 // What the programs that replay a list of calls share: lines of a script, and numbers as text.
 //
 // A line has 31 bytes: a letter, a digit and three fields of 8 hexadecimal digits, parted by blanks, and the newline.
+#![tactic(auto)]
+
 ghost use Rattle.std.specs.Prelude.{◌<◌, ◌≤◌, ◌+◌};
 
+use std::io;
+use std::io::{ErrorKind, Read, Write};
+
 // Reads the next line; whether there is one.
-pub fn next(line: &mut [u8; 31]) -> bool {
-    let n = io::read_full(libc::STDIN_FILENO, line);
-    n == 31
+pub fn next<R: Read>(input: &mut R, line: &mut [u8; 31]) -> io::Result<bool> {
+    match input.read_exact(line) {
+        Ok(()) => Ok(true),
+        Err(e) => {
+            if e.kind() == ErrorKind::UnexpectedEof {
+                Ok(false)
+            } else {
+                Err(e)
+            }
+        }
+    }
 }
 
 // The letter, the digit and the fields of a line.
@@ -90,12 +103,12 @@ fn glyph(d: u32) -> u8
     digits[d as usize]
 }
 
-pub fn put_byte(b: u8) {
-    io::write_all(libc::STDOUT_FILENO, &[b]);
+pub fn put_byte<W: Write>(out: &mut W, b: u8) -> io::Result<()> {
+    out.write_all(&[b])
 }
 
 // A blank and 8 digits.
-pub fn put_word(v: u32) {
+pub fn put_word<W: Write>(out: &mut W, v: u32) -> io::Result<()> {
     let text = [
         b' ',
         glyph(v / 0x1000_0000),
@@ -107,27 +120,27 @@ pub fn put_word(v: u32) {
         glyph(v / 0x10 % 16),
         glyph(v % 16),
     ];
-    io::write_all(libc::STDOUT_FILENO, &text);
+    out.write_all(&text)
 }
 
 // A float's pattern; a NaN has one.
-pub fn put_float(v: f32) {
+pub fn put_float<W: Write>(out: &mut W, v: f32) -> io::Result<()> {
     if v != v {
-        put_word(0x7fc0_0000);
+        put_word(out, 0x7fc0_0000)
     } else {
-        put_word(f32::to_bits(v));
+        put_word(out, f32::to_bits(v))
     }
 }
 
 // A blank and 2 digits.
-pub fn put_code(code: u8) {
+pub fn put_code<W: Write>(out: &mut W, code: u8) -> io::Result<()> {
     let v = code as u32;
     let text = [b' ', glyph(v / 16), glyph(v % 16)];
-    io::write_all(libc::STDOUT_FILENO, &text);
+    out.write_all(&text)
 }
 
 // A blank, and 1 for yes.
-pub fn put_flag(is: bool) {
+pub fn put_flag<W: Write>(out: &mut W, is: bool) -> io::Result<()> {
     let text = [b' ', if is { b'1' } else { b'0' }];
-    io::write_all(libc::STDOUT_FILENO, &text);
+    out.write_all(&text)
 }
