@@ -58,11 +58,12 @@ more_well j buffer w m (Ok (suc n)) t = first w.well _ (sym t.more ∙ m)
     first false b e = e
 
 -- nothing was given: nothing is answered
-pub nothing : (c : Option (List ℕ)) (j : Journal) (l : List ℕ) → l ≡ []
-    → Appends c c (feed standard (viewed j) l).put
+pub nothing : (c : Option (List ℕ)) (j : Journal) (r : Result ℕ Error) (buffer : List ℕ) (n : ℕ) → r ≡ Ok n → n ≡ 0
+    → Appends c c (feed standard (viewed j) (came r buffer)).put
 unfolding feed
-nothing c j l e =
-    subst (λ (x : List ℕ). Appends c c (feed standard (viewed j) x).put) (sym e) (Appends-none c)
+nothing c j r buffer n e z =
+    subst (λ (x : List ℕ). Appends c c (feed standard (viewed j) x).put)
+    (sym (ap (λ (x : Result ℕ Error). came x buffer) e ∙ ap (λ (m : ℕ). take m buffer) z)) (Appends-none c)
 
 none_left : (n : ℕ) → ltb 0 n ≡ false → n ≡ 0
 none_left n e = let h = ltb-false 0 n e in omega arith

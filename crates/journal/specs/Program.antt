@@ -1,6 +1,6 @@
--- What the parts of the program hand on, what they hand to be written, and what they take from the input and put into the
--- output. What standard input gives and standard output takes no contract can say; these contracts hold at every reader and
--- every writer, and speak of the bytes of those that know theirs. Definitions only.
+-- What the parts of the program hand on, what they hand to be written, and what they take from the input and put into
+-- the output. What standard input gives and standard output takes no contract can say; these contracts hold at every
+-- reader and every writer, and speak of the bytes of those that know theirs. Definitions only.
 use Rattle.std.specs.Prelude.{◌≡◌, Bool, true, false, ◌&&◌, ◌⊎◌, List, [], ◌++◌, ℕ, zero, suc, ◌≤◌, ◌<◌, ltb, length, take, IfSome, Option, Result, Ok, Err}
 use Rattle.std.specs.declared.io.Error.{Error}
 use Rattle.std.specs.Io.{ReadsAtMost}
@@ -55,17 +55,17 @@ pub record Read (j : Journal) (buffer : List ℕ) (r : Went) : Type 0 where
   pub moved : ReadsAtMost got buffer
   pub took : Took j got buffer r
 
--- all reads: the journal is the one after some bytes, and there is no more to read. `Moves` says that these are all that was
--- read
+-- all reads: the journal is the one after some bytes, and there is no more to read. `Moves` says that these are all
+-- that was read
 pub record Reads (j : Journal) (r : Went) : Type 0 where
   pub bytes : List ℕ
   pub journal : viewed r.journal ≡ (feed standard (viewed j) bytes).journal
   pub stops : r.more ≡ false
   pub goes : Goes r.journal
 
--- what one read or more took from the input and put into the output, where all went well: some bytes, and the answers to
--- them; the journal is the one after them; and where there is no more to read, no line may be read any more, or the input is
--- at its end, unless the buffer has no room
+-- what one read or more took from the input and put into the output, where all went well: some bytes, and the answers
+-- to them; the journal is the one after them; and where there is no more to read, no line may be read any more, or the
+-- input is at its end, unless the buffer has no room
 pub record Moved (j : Journal) (room : ℕ) (input input' written written' : Option (List ℕ)) (r : Went) : Type 0 where
   pub bytes : List ℕ
   pub read : Consumes input input' bytes

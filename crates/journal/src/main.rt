@@ -118,6 +118,7 @@ fn answer_front<W: Write, E: Eprint>(
 }
 
 // What a read answered: it failed, the input is at its end, or so many bytes stand at the front of the buffer.
+#[tactic(auto, using(crate::proofs::Taking::nothing))]
 fn take<W: Write, E: Eprint>(
     j: Journal,
     got: io::Result<usize>,
