@@ -1,10 +1,11 @@
-// Replays a list of calls of `bank` and of the primary beside it, one a line of standard input, and prints an answer to each.
-// Both files were written by `oracle replay bank crates/bank_replay`: stdout has the answers of the Rust that the library replaces,
-// with document 01's refusals, serials and departures. A line is a letter, a digit and three fields of 8 hexadecimal digits,
-// parted by blanks. N new (the digit: switching; the width), M on_mark (the digit: live), G on_gap, L puts a mark on the list, R
-// calls on_ready with the list and empties it, C clear, X take_switch, V reads (a place), A shows bank and primary whole; m on_mark, g
-// on_element_gap, w seed_wpm, f bootstrap of the primary, n a fresh primary, I its serial; S sets a part of the bank, T one of the
-// tracker of the challenger that the digit names, s one of the primary (its number, its place, its value).
+// Replays a list of calls of `bank` and of the primary beside it, one a line of standard input, and prints an answer to
+// each. Both files were written by `oracle replay bank crates/bank_replay`: stdout has the answers of the Rust that the
+// library replaces, with document 01's refusals, serials and departures. A line is a letter, a digit and three fields
+// of 8 hexadecimal digits, parted by blanks. N new (the digit: switching; the width), M on_mark (the digit: live), G
+// on_gap, L puts a mark on the list, R calls on_ready with the list and empties it, C clear, X take_switch, V reads (a
+// place), A shows bank and primary whole; m on_mark, g on_element_gap, w seed_wpm, f bootstrap of the primary, n a
+// fresh primary, I its serial; S sets a part of the bank, T one of the tracker of the challenger that the digit names,
+// s one of the primary (its number, its place, its value).
 #![tactic(auto)]
 
 use crate::banks::{put_bank, put_hypothesis, put_left, put_long, put_record, put_short};

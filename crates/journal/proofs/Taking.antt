@@ -88,7 +88,8 @@ moves j (Ok (suc n)) buffer w t i i' k c c' a well = record {
   wrote = a well;
   journal = t.journal ∙ ap (λ (l : List ℕ). (feed standard (viewed j) l).journal)
       (take_all t.up_to (take (suc n) buffer) (let e = t.all well in omega arith));
-  ends = λ m h. inl (none_left w.journal.left (sym (ap (λ (b : Bool). b && ltb 0 w.journal.left) well) ∙ sym t.more ∙ m));
+  ends = λ m h.
+      inl (none_left w.journal.left (sym (ap (λ (b : Bool). b && ltb 0 w.journal.left) well) ∙ sym t.more ∙ m));
 }
 
 -- ---- all reads
@@ -182,6 +183,3 @@ module _ (j₀ : Journal) (buffer₀ out₀ : List ℕ) (i₀ c₀ : Option (Lis
   -- no run gets there
   pub read_stops : Reads j₀ (record { journal = j; more = false; well = false })
   read_stops = record { bytes = k.bytes; journal = k.journal; stops = refl; goes = k.goes }
-
-  pub none_moved : (i' c' : Option (List ℕ)) → Moves j₀ (length buffer₀) i₀ i' c₀ c' (record { journal = j; more = false; well = false })
-  none_moved i' c' e = absurd (true≢false (sym e))

@@ -1,8 +1,8 @@
-// Replays a list of calls of `sender`, one a line of standard input, and prints after each the answer and the statistics as they are.
-// stdin was written by `oracle replay sender crates/sender_replay`, and stdout by the Rust that the library replaces, from the same
-// list. A line is a letter, the number of a class and three fields of 8 hexadecimal digits, parted by blanks: O observe (duration,
-// dit), M mean_dits, R dash_dot_ratio, W sender_word_dits, P is_pause (dits), E estimates (dit), S sets a class (mean, variance,
-// count), N starts anew.
+// Replays a list of calls of `sender`, one a line of standard input, and prints after each the answer and the
+// statistics as they are. stdin was written by `oracle replay sender crates/sender_replay`, and stdout by the Rust that
+// the library replaces, from the same list. A line is a letter, the number of a class and three fields of 8 hexadecimal
+// digits, parted by blanks: O observe (duration, dit), M mean_dits, R dash_dot_ratio, W sender_word_dits, P is_pause
+// (dits), E estimates (dit), S sets a class (mean, variance, count), N starts anew.
 #![tactic(auto)]
 
 use exports::of_sender as calls;

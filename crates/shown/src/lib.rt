@@ -1,5 +1,5 @@
-// What the programs that replay calls of a tracker share: a tracker as it is printed, its parts in order, lists with their counts
-// before them, absent numbers left out; and a part of one set.
+// What the programs that replay calls of a tracker share: a tracker as it is printed, its parts in order, lists with
+// their counts before them, absent numbers left out; and a part of one set.
 #![tactic(auto)]
 
 use pair::ClusterPair;

@@ -1,7 +1,8 @@
-// Replays a list of calls of a station in plain form, one a line of standard input, and prints an answer to each. Both files were written by
-// `oracle replay station crates/station_replay`: stdout has the answers of the Rust that the library replaces, driven as document 01's
-// "Station" says. A line is a letter, a digit and three fields of 8 hexadecimal digits, parted by blanks: W a fresh station (the
-// digit: switching; the width), E an event (the digit: live; its kind, its number), A shows the rivals and the primary whole.
+// Replays a list of calls of a station in plain form, one a line of standard input, and prints an answer to each. Both
+// files were written by `oracle replay station crates/station_replay`: stdout has the answers of the Rust that the
+// library replaces, driven as document 01's "Station" says. A line is a letter, a digit and three fields of 8
+// hexadecimal digits, parted by blanks: W a fresh station (the digit: switching; the width), E an event (the digit:
+// live; its kind, its number), A shows the rivals and the primary whole.
 #![tactic(auto)]
 
 use bank_model::MOST_LEFT;

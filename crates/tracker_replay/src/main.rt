@@ -1,9 +1,10 @@
-// Replays a list of calls of `tracker`, one a line of standard input, and prints after each the answer and the tracker as it is.
-// Both files were written by `oracle replay tracker crates/tracker_replay`: stdout has the answers of the Rust that the library
-// replaces. A line is a letter, a digit and three fields of 8 hexadecimal digits, parted by blanks: M on_mark, G on_element_gap, W seed_wpm,
-// H set_ratio_hint, each with its number in the first field; F bootstrap, T take_badlock_recovered, R reseed_wpm_after_warmup; L
-// puts a gap on the list, and U calls resolve_unimodal_bootstrap with the list and empties it; V reads; S sets a part (its
-// number, its place, its value); N starts anew.
+// Replays a list of calls of `tracker`, one a line of standard input, and prints after each the answer and the tracker
+// as it is. Both files were written by `oracle replay tracker crates/tracker_replay`: stdout has the answers of the
+// Rust that the library replaces. A line is a letter, a digit and three fields of 8 hexadecimal digits, parted by
+// blanks: M on_mark, G on_element_gap, W seed_wpm, H set_ratio_hint, each with its number in the first field; F
+// bootstrap, T take_badlock_recovered, R reseed_wpm_after_warmup; L puts a gap on the list, and U calls
+// resolve_unimodal_bootstrap with the list and empties it; V reads; S sets a part (its number, its place, its value); N
+// starts anew.
 #![tactic(auto)]
 
 use exports::of_tracker as calls;
