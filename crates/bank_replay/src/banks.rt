@@ -5,150 +5,172 @@ use plain::{PlainBank, PlainDeparture, PlainHypothesis};
 use plain_tracker::from::{flag_of, tracker_of};
 use replay::{put_code, put_flag, put_float, put_word};
 use shown::{put_count, put_held, put_tracker};
+use std::io;
+use std::io::Write;
 
 // A number of 64 bits, its upper half first.
-pub(crate) fn put_long(n: u64) {
-    put_word((n / 4294967296) as u32);
-    put_word((n % 4294967296) as u32);
+pub(crate) fn put_long<W: Write>(out: &mut W, n: u64) -> io::Result<()> {
+    put_word(out, (n / 4294967296) as u32)?;
+    put_word(out, (n % 4294967296) as u32)
 }
 
-pub(crate) fn put_hypothesis(h: PlainHypothesis) {
-    put_long(h.serial);
-    put_float(h.score);
-    put_float(h.gap_score);
-    put_word(h.lead_marks);
-    put_word(h.age_marks);
-    put_code(h.origin);
+pub(crate) fn put_hypothesis<W: Write>(out: &mut W, h: PlainHypothesis) -> io::Result<()> {
+    put_long(out, h.serial)?;
+    put_float(out, h.score)?;
+    put_float(out, h.gap_score)?;
+    put_word(out, h.lead_marks)?;
+    put_word(out, h.age_marks)?;
+    put_code(out, h.origin)?;
     if h.origin == 2 {
-        put_word(h.retain_marks);
+        put_word(out, h.retain_marks)?;
     }
-    put_flag(flag_of(h.reported));
-    put_float(h.ln_lo);
-    put_float(h.ln_hi);
+    put_flag(out, flag_of(h.reported))?;
+    put_float(out, h.ln_lo)?;
+    put_float(out, h.ln_hi)?;
     let t = h.tracker;
-    put_tracker(tracker_of(t));
+    put_tracker(out, tracker_of(t))
 }
 
-pub(crate) fn put_record(r: SwitchRecord) {
-    put_long(r.mark_index);
-    put_float(r.from_dit_ms);
-    put_float(r.to_dit_ms);
-    put_flag(r.applied);
+pub(crate) fn put_record<W: Write>(out: &mut W, r: SwitchRecord) -> io::Result<()> {
+    put_long(out, r.mark_index)?;
+    put_float(out, r.from_dit_ms)?;
+    put_float(out, r.to_dit_ms)?;
+    put_flag(out, r.applied)
 }
 
 // The i-th of a list, if it has so many and there is a place for it.
-fn put_challenger_at(b: PlainBank, i: usize) {
+fn put_challenger_at<W: Write>(out: &mut W, b: PlainBank, i: usize) -> io::Result<()> {
     if i < b.challengers_len {
         if i < 8 {
             let h = b.challengers[i];
-            put_hypothesis(h);
+            put_hypothesis(out, h)?;
         }
     }
+    Ok(())
 }
 
-fn put_streak_at(b: PlainBank, i: usize) {
+fn put_streak_at<W: Write>(out: &mut W, b: PlainBank, i: usize) -> io::Result<()> {
     if i < b.streak_len {
         if i < 4 {
-            put_float(b.streak[i]);
+            put_float(out, b.streak[i])?;
         }
     }
+    Ok(())
 }
 
-fn put_gap_at(b: PlainBank, i: usize) {
+fn put_gap_at<W: Write>(out: &mut W, b: PlainBank, i: usize) -> io::Result<()> {
     if i < b.streak_gaps_len {
         if i < 4 {
-            put_float(b.streak_gaps[i]);
+            put_float(out, b.streak_gaps[i])?;
         }
     }
+    Ok(())
 }
 
-fn put_record_at(b: PlainBank, i: usize) {
+fn put_record_at<W: Write>(out: &mut W, b: PlainBank, i: usize) -> io::Result<()> {
     if i < b.log_len {
         if i < 16 {
             let r = b.log[i];
-            put_record(record_of(r));
+            put_record(out, record_of(r))?;
         }
     }
+    Ok(())
 }
 
-fn put_streak(b: PlainBank) {
-    put_count(b.streak_len);
+fn put_streak<W: Write>(out: &mut W, b: PlainBank) -> io::Result<()> {
+    put_count(out, b.streak_len)?;
     for i in 0..4 {
-        put_streak_at(b, i);
+        put_streak_at(out, b, i)?;
     }
+    Ok(())
 }
 
-fn put_gaps(b: PlainBank) {
-    put_count(b.streak_gaps_len);
+fn put_gaps<W: Write>(out: &mut W, b: PlainBank) -> io::Result<()> {
+    put_count(out, b.streak_gaps_len)?;
     for i in 0..4 {
-        put_gap_at(b, i);
+        put_gap_at(out, b, i)?;
     }
+    Ok(())
 }
 
-fn put_log(b: PlainBank) {
-    put_count(b.log_len);
+fn put_log<W: Write>(out: &mut W, b: PlainBank) -> io::Result<()> {
+    put_count(out, b.log_len)?;
     for i in 0..16 {
-        put_record_at(b, i);
+        put_record_at(out, b, i)?;
     }
+    Ok(())
 }
 
-fn put_challengers(b: PlainBank) {
-    put_count(b.challengers_len);
+fn put_challengers<W: Write>(out: &mut W, b: PlainBank) -> io::Result<()> {
+    put_count(out, b.challengers_len)?;
     for i in 0..8 {
-        put_challenger_at(b, i);
+        put_challenger_at(out, b, i)?;
     }
+    Ok(())
 }
 
-fn put_choice(b: PlainBank) {
+fn put_choice<W: Write>(out: &mut W, b: PlainBank) -> io::Result<()> {
     let has = flag_of(b.has_pending);
-    put_flag(has);
+    put_flag(out, has)?;
     if has {
-        put_count(b.pending);
+        put_count(out, b.pending)?;
     }
+    Ok(())
 }
 
 // What changes most, after each call.
-pub(crate) fn put_short(b: PlainBank) {
-    put_count(b.challengers_len);
-    put_float(b.primary_score);
-    put_float(b.primary_gap_score);
-    put_long(b.marks_seen);
-    put_long(b.gaps_seen);
-    put_choice(b);
-    put_long(b.started);
+pub(crate) fn put_short<W: Write>(out: &mut W, b: PlainBank) -> io::Result<()> {
+    put_count(out, b.challengers_len)?;
+    put_float(out, b.primary_score)?;
+    put_float(out, b.primary_gap_score)?;
+    put_long(out, b.marks_seen)?;
+    put_long(out, b.gaps_seen)?;
+    put_choice(out, b)?;
+    put_long(out, b.started)
 }
 
 // All of it.
-pub(crate) fn put_bank(b: PlainBank) {
-    put_count(b.width);
-    put_flag(flag_of(b.switching));
-    put_short(b);
-    put_challengers(b);
-    put_streak(b);
-    put_gaps(b);
+pub(crate) fn put_bank<W: Write>(out: &mut W, b: PlainBank) -> io::Result<()> {
+    put_count(out, b.width)?;
+    put_flag(out, flag_of(b.switching))?;
+    put_short(out, b)?;
+    put_challengers(out, b)?;
+    put_streak(out, b)?;
+    put_gaps(out, b)?;
     let side = flag_of(b.has_side);
-    put_flag(side);
+    put_flag(out, side)?;
     if side {
-        put_flag(flag_of(b.streak_side));
+        put_flag(out, flag_of(b.streak_side))?;
     }
-    put_held(flag_of(b.has_last_gap), b.last_gap);
-    put_log(b);
+    put_held(out, flag_of(b.has_last_gap), b.last_gap)?;
+    put_log(out, b)
 }
 
-fn put_departure(left: [PlainDeparture; MOST_LEFT], i: usize, n: usize) {
+fn put_departure<W: Write>(
+    out: &mut W,
+    left: [PlainDeparture; MOST_LEFT],
+    i: usize,
+    n: usize,
+) -> io::Result<()> {
     if i < n {
         if i < MOST_LEFT {
             let d = left[i];
-            put_long(d.serial);
-            put_code(d.cause);
+            put_long(out, d.serial)?;
+            put_code(out, d.cause)?;
         }
     }
+    Ok(())
 }
 
 // Those that left.
-pub(crate) fn put_left(left: [PlainDeparture; MOST_LEFT], n: usize) {
-    put_count(n);
+pub(crate) fn put_left<W: Write>(
+    out: &mut W,
+    left: [PlainDeparture; MOST_LEFT],
+    n: usize,
+) -> io::Result<()> {
+    put_count(out, n)?;
     for i in 0..MOST_LEFT {
-        put_departure(left, i, n);
+        put_departure(out, left, i, n)?;
     }
+    Ok(())
 }

@@ -1,11 +1,7 @@
 -- The end of the input: what is written then, and what the whole run is. Assumes nothing.
-use mathlib.Core.Path.{◌≡◌, refl, ap, sym, ◌∙◌}
-use mathlib.Core.Bool.{true, false, false≢true}
-use mathlib.Core.List.{List, [], ◌∷◌, ◌++◌, append-nil}
-use Prim.Native.Nat.{ℕ, ◌≤◌, ◌<◌}
-use native.Mathlib.Omega.{arith}
-use lib.ListN.{length, take, drop, length-append}
-use lib.Seq.{take_at}
+use Rattle.std.proofs.Common.{◌≡◌, refl, ap, sym, ◌∙◌, subst, true, false, true≢false, List, [], ◌∷◌, ◌++◌, append-nil, ℕ, ◌≤◌, ◌<◌, arith, length, take, drop, length-append, take_at, ◌⊎◌, inl, inr, IfSome, Option, Some, None}
+use Rattle.std.specs.Io.KnownBytes.{Appends, Consumes, IsAtEnd}
+use Rattle.std.proofs.KnownBytes.{Appends-trans}
 use Rattle.ranges.specs.Settings.{Settings, standard}
 use Rattle.line_out.specs.Written.{over}
 use Rattle.journal_lines.specs.declared.Journal.{Journal}
@@ -15,20 +11,7 @@ use Rattle.journal_lines.specs.Pieces as Pieces
 use Rattle.journal_lines.specs.Parts.{viewed}
 use Rattle.journal_lines.proofs.Joining.{feed_append, output_is}
 use Rattle.journal.specs.declared.Went.{Went}
-use Rattle.journal.specs.Program.{Closes, Reads, Serves}
-
-module _ (j : Journal) (n : ℕ) (was is : List ℕ) (w : (n ≡ length (end (viewed j))) × (is ≡ over (end (viewed j)) was))
-    (e : length is ≡ length was) where
-  -- what is written at the end has room
-  pub end_room : n ≤ length is
-  end_room =
-      let a = ap length w.1 ∙ length-append (end (viewed j)) (drop (length (end (viewed j))) was) in
-      let b = w.0 in
-      omega arith
-
-  -- and stands at the front of the buffer
-  pub end_answers : take n is ≡ end (viewed j)
-  end_answers = ap (take n) w.1 ∙ take_at (end (viewed j)) (drop (length (end (viewed j))) was) n (sym w.0)
+use Rattle.journal.specs.Program.{Closes, Moved, Reads, Serves, Whole}
 
 -- ---- the whole run
 
@@ -79,7 +62,35 @@ module _ (first : Journal) (b : viewed first ≡ start) (w : Went) (r : Reads fi
 
   -- it could not
   pub unserved : w.well ≡ false → (is : List ℕ) → Serves is w
-  unserved e is = all_served w refl r.stops [] is (λ a. absurd (false≢true (sym e ∙ a)))
+  unserved e is = all_served w refl r.stops [] is (λ a. absurd (true≢false (sym a ∙ e)))
+
+  -- all of the input was answered: it was read to its end, or no line may be read any more
+  module _ (room : ℕ) (h : 0 < room) (i i' c c' c'' : Option (List ℕ)) (m : Moved first room i i' c c' w)
+      (a : Appends c' c'' (end (viewed w.journal))) where
+    its : viewed w.journal ≡ (feed standard start m.bytes).journal
+    its = m.journal ∙ ap (λ (j : Pieces.Journal). (feed standard j m.bytes).journal) b
+
+    written : Appends c c'' (output standard m.bytes)
+    written =
+        subst (λ (l : List ℕ). Appends c c'' l)
+        (ap (λ (j : Pieces.Journal). (feed standard j m.bytes).put ++ end (viewed w.journal)) b
+        ∙ ap (λ (j : Pieces.Journal). (feed standard start m.bytes).put ++ end j) its
+        ∙ output_is standard m.bytes)
+        (Appends-trans _ _ _ _ _ m.wrote a)
+
+    whole_of : (x y : Option (List ℕ)) → Consumes x y m.bytes → (w.journal.left ≡ 0) ⊎ IsAtEnd y → Whole x c c''
+    whole_of None y k e = tt
+    whole_of (Some l) None k e = absurd k
+    whole_of (Some l) (Some rest) k (inl e) =
+        subst (λ (o : List ℕ). Appends c c'' o)
+        (sym (ap (output standard) k
+        ∙ nothing_lost standard m.bytes (sym (ap (λ (j : Pieces.Journal). j.left) its) ∙ e) rest)) written
+    whole_of (Some l) (Some rest) k (inr e) =
+        subst (λ (o : List ℕ). Appends c c'' (output standard o))
+        (sym (k ∙ ap (λ (t : List ℕ). m.bytes ++ t) e ∙ append-nil m.bytes)) written
+
+    pub whole : Whole i c c''
+    whole = whole_of i i' m.read (m.ends r.stops h)
 
 pub start_left : (first : Journal) → viewed first ≡ start → 0 < first.left
 start_left first b = let e = ap (λ (j : Pieces.Journal). j.left) b in omega arith

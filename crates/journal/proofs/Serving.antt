@@ -1,12 +1,7 @@
 -- The loop that answers a piece, a buffer full at a time. Assumes nothing.
-use mathlib.Core.Path.{◌≡◌, refl, ap, sym, ◌∙◌, subst}
-use mathlib.Core.Bool.{Bool, true, false, ◌&&◌, false≢true}
-use mathlib.Core.List.{List, ◌++◌}
-use Prim.Native.Nat.{ℕ, ◌+◌, ◌-◌, ◌≤◌, ◌<◌}
-use native.Mathlib.Omega.{arith}
-use lib.Dec.{ltb}
-use lib.ListN.{length, take, drop, length-append, length-drop}
-use lib.Seq.{take-add, take_all, take_at}
+use Rattle.std.proofs.Common.{◌≡◌, refl, ap, sym, ◌∙◌, subst, Bool, true, false, not, ◌&&◌, true≢false, List, ◌++◌, ℕ, ◌+◌, ◌-◌, ◌≤◌, ◌<◌, arith, ltb, length, take, drop, Option, Some, None, [], append-nil, length-append, length-drop, take_all, take_at, take-add}
+use Rattle.std.specs.Io.KnownBytes.{Appends}
+use Rattle.std.proofs.KnownBytes.{Appends-trans}
 use Rattle.ranges.specs.Settings.{standard}
 use Rattle.journal_lines.specs.declared.Fed.{Fed}
 use Rattle.journal_lines.specs.declared.Journal.{Journal}
@@ -19,8 +14,23 @@ use Rattle.journal_lines.proofs.Joining.{feed_append}
 use Rattle.journal.specs.declared.Went.{Went}
 use Rattle.journal.specs.Program.{Answers, Heard, going}
 
+-- what a test of `!b` says of b
+pub not_so : (b : Bool) → not b ≡ true → b ≡ false
+not_so true e = sym e
+not_so false e = refl
+
+pub so : (b : Bool) → not b ≡ false → b ≡ true
+so true e = refl
+so false e = sym e
+
+-- nothing more
+pub Appends-none : (c : Option (List ℕ)) → Appends c c []
+Appends-none None = tt
+Appends-none (Some l) = sym (append-nil l)
+
 -- what stands where so many bytes of the piece were answered
-pub record Serving (j₀ : Journal) (piece out₀ : List ℕ) (w : Went) (at : ℕ) (out : List ℕ) : Type 0 where
+pub record Serving (j₀ : Journal) (piece out₀ : List ℕ) (c₀ : Option (List ℕ)) (w : Went) (at : ℕ) (out : List ℕ)
+    (c : Option (List ℕ)) : Type 0 where
   pub goes : Goes w.journal
   pub few : at ≤ length piece
   pub journal : viewed w.journal ≡ (feed standard (viewed j₀) (take at piece)).journal
@@ -28,13 +38,22 @@ pub record Serving (j₀ : Journal) (piece out₀ : List ℕ) (w : Went) (at : �
   pub more : w.more ≡ (w.well && ltb 0 w.journal.left)
   pub long : length out ≡ length out₀
   pub room : 80 ≤ length out₀
+  pub wrote : Appends c₀ c (feed standard (viewed j₀) (take at piece)).put
 
-pub serve_begins : (piece out : List ℕ) (j : Journal) (w : Went) → w ≡ going j true → Goes j → 80 ≤ length out
-    → Serving w.journal piece out w 0 out
+pub serve_begins : (piece out : List ℕ) (j : Journal) (c : Option (List ℕ)) (w : Went) → w ≡ going j true → Goes j
+    → 80 ≤ length out → Serving w.journal piece out c w 0 out c
 unfolding feed
-serve_begins piece out j w e g h =
-    subst (λ (v : Went). Serving v.journal piece out v 0 out) (sym e)
-    (record { goes = g; few = omega arith; journal = refl; well = refl; more = refl; long = refl; room = h })
+serve_begins piece out j c w e g h =
+    subst (λ (v : Went). Serving v.journal piece out c v 0 out c) (sym e) (record {
+      goes = g;
+      few = omega arith;
+      journal = refl;
+      well = refl;
+      more = refl;
+      long = refl;
+      room = h;
+      wrote = Appends-none c;
+    })
 
 -- what is heard on the journal with which it begins
 pub heard_from : (piece : List ℕ) (j : Journal) (w : Went) → w ≡ going j true → (v : Went) → Heard w.journal piece v
@@ -47,8 +66,8 @@ goes_on v j b e = e ∙ ap (going j) (sym (ap (λ (w : Went). w.well) e))
 abbrev pub Fed-of : Journal → List ℕ → List ℕ → List ℕ → Fed → Type 0
 Fed-of j piece was is r = Feeds j piece was is r × (r.used ≡ within standard (length was) (viewed j) piece)
 
-module _ (j₀ : Journal) (piece out₀ : List ℕ) (w : Went) (at : ℕ) (out : List ℕ)
-    (k : Serving j₀ piece out₀ w at out) (is : List ℕ) (r : Fed)
+module _ (j₀ : Journal) (piece out₀ : List ℕ) (c₀ : Option (List ℕ)) (w : Went) (at : ℕ) (out : List ℕ)
+    (c : Option (List ℕ)) (k : Serving j₀ piece out₀ c₀ w at out c) (is : List ℕ) (r : Fed)
     (f : Fed-of w.journal (take (length piece - at) (drop at piece)) out is r) (e : length is ≡ length out) where
   -- the bytes that were fed
   heard : take r.used (take (length piece - at) (drop at piece)) ≡ take r.used (drop at piece)
@@ -84,6 +103,21 @@ module _ (j₀ : Journal) (piece out₀ : List ℕ) (w : Went) (at : ℕ) (out :
             ∙ ap (λ (l : List ℕ). (feed standard (viewed w.journal) l).put) same;
       }
 
+  -- the answers to all bytes so far
+  written : (feed standard (viewed j₀) (take at piece)).put ++ take r.put is
+      ≡ (feed standard (viewed j₀) (take (at + r.used) piece)).put
+  written =
+      let P = (feed standard (viewed j₀) (take at piece)).put in
+      ap (λ (l : List ℕ). P ++ l)
+      (ap (take r.put) f.0.out
+      ∙ take_at (feed standard (viewed w.journal) (take r.used (take (length piece - at) (drop at piece)))).put
+      (drop r.put out) r.put (sym f.0.put)
+      ∙ ap (λ (l : List ℕ). (feed standard (viewed w.journal) l).put) heard
+      ∙ ap (λ (j : Pieces.Journal). (feed standard j (take r.used (drop at piece))).put) k.journal)
+      ∙ sym (ap (λ (g : Pieces.Fed). g.put)
+      (feed_append standard (viewed j₀) (take at piece) (take r.used (drop at piece))))
+      ∙ ap (λ (l : List ℕ). (feed standard (viewed j₀) l).put) (sym (take-add at r.used piece))
+
   pub serve_less : at < length piece → length piece - (at + r.used) < length piece - at
   serve_less h =
       let x = k.room in
@@ -111,15 +145,15 @@ module _ (j₀ : Journal) (piece out₀ : List ℕ) (w : Went) (at : ℕ) (out :
   serve_fails v g b = record {
     up_to = at + r.used;
     few = serve_few;
-    all = λ a. absurd (false≢true (sym b ∙ a));
+    all = λ a. absurd (true≢false (sym a ∙ b));
     journal = ap (λ (x : Went). viewed x.journal) g ∙ next;
     more = more_of v g;
     goes = subst (λ (j : Journal). Goes j) (sym (its v g)) f.0.goes;
   }
 
   pub serve_turns : (v : Went) → v ≡ going r.journal v.well → v.well ≡ true
-      → Serving j₀ piece out₀ v (at + r.used) is
-  serve_turns v g b = record {
+      → (c' : Option (List ℕ)) → Appends c c' (take r.put is) → Serving j₀ piece out₀ c₀ v (at + r.used) is c'
+  serve_turns v g b c' a = record {
     goes = subst (λ (j : Journal). Goes j) (sym (its v g)) f.0.goes;
     few = serve_few;
     journal = ap (λ (x : Went). viewed x.journal) g ∙ next;
@@ -127,16 +161,22 @@ module _ (j₀ : Journal) (piece out₀ : List ℕ) (w : Went) (at : ℕ) (out :
     more = more_of v g;
     long = e ∙ k.long;
     room = k.room;
+    wrote = subst (Appends c₀ c') written (Appends-trans _ _ _ _ _ k.wrote a);
   }
 
 -- the whole piece
-pub serve_ends : (j₀ : Journal) (piece out₀ : List ℕ) (w : Went) (at : ℕ) (out : List ℕ)
-    → Serving j₀ piece out₀ w at out → length piece ≤ at → Heard j₀ piece w
-serve_ends j₀ piece out₀ w at out k h = record {
-  up_to = at;
-  few = k.few;
-  all = λ a. (let b = k.few in omega arith);
-  journal = k.journal;
-  more = k.more;
-  goes = k.goes;
-}
+module _ (j₀ : Journal) (piece out₀ : List ℕ) (c₀ : Option (List ℕ)) (w : Went) (at : ℕ) (out : List ℕ)
+    (c : Option (List ℕ)) (k : Serving j₀ piece out₀ c₀ w at out c) (h : length piece ≤ at) where
+  pub serve_ends : Heard j₀ piece w
+  serve_ends = record {
+    up_to = at;
+    few = k.few;
+    all = λ a. (let b = k.few in omega arith);
+    journal = k.journal;
+    more = k.more;
+    goes = k.goes;
+  }
+
+  pub serve_wrote : Appends c₀ c (feed standard (viewed j₀) piece).put
+  serve_wrote =
+      subst (λ (l : List ℕ). Appends c₀ c (feed standard (viewed j₀) l).put) (take_all at piece h) k.wrote

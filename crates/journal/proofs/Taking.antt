@@ -1,19 +1,8 @@
 -- What a read answered, and what all reads come to. Assumes nothing.
-use mathlib.Core.Path.{◌≡◌, refl, ap, sym, ◌∙◌, subst}
-use mathlib.Core.Bool.{Bool, true, false, ◌&&◌, false≢true}
-use mathlib.Core.List.{List, [], ◌++◌}
-use Prim.Native.Nat.{ℕ, zero, suc, ◌≤◌, ◌<◌, min}
-use native.Mathlib.Omega.{arith}
-use borrow.Author.Tests.{ltb-true}
-use lib.Dec.{ltb}
-use lib.IntN.{ℤ, pos, negsuc}
-use lib.ListN.{length, take}
-use lib.Signed.{lt_z}
-use mir.Syntax.{w64}
-use mir.Val.{SFits, of_z, to_z}
-use mir.Facts.{to_z-of_z}
-use Rattle.io.specs.Counts.{clamp_len}
-use Rattle.libc.specs.Io.{Moved}
+use Rattle.std.proofs.Common.{◌≡◌, refl, ap, sym, ◌∙◌, subst, Bool, true, false, ◌&&◌, ◌⊎◌, inl, inr, true≢false, List, [], ◌++◌, ℕ, zero, suc, ◌≤◌, ◌<◌, arith, ltb, ltb-true, ltb-false, length, take, Option, Result, Ok, Err, take_all}
+use Rattle.std.specs.declared.io.Error.{Error}
+use Rattle.std.specs.Io.KnownBytes.{Appends, Consumes, IsAtEnd, ReadConsumes}
+use Rattle.std.proofs.KnownBytes.{Appends-trans, Consumes-trans}
 use Rattle.ranges.specs.Settings.{standard}
 use Rattle.journal_lines.specs.declared.Journal.{Journal}
 use Rattle.journal_lines.specs.Pieces.{feed}
@@ -21,42 +10,10 @@ use Rattle.journal_lines.specs.Pieces as Pieces
 use Rattle.journal_lines.specs.Parts.{Goes, viewed}
 use Rattle.journal_lines.proofs.Joining.{feed_append}
 use Rattle.journal.specs.declared.Went.{Went}
-use Rattle.journal.specs.Program.{Heard, Read, Reads, Took, stopped}
+use Rattle.journal.specs.Program.{Heard, Moved, Moves, Read, Reads, Took, came, stopped}
+use Rattle.journal.proofs.Serving.{Appends-none}
 
 -- ---- one read
-
-module _ (j : Journal) (buffer : List ℕ) where
-  failed : (z : ℤ) → lt_z z (pos 0) ≡ true → Took j z buffer (stopped j false)
-  failed (pos n) e = absurd (let h = ltb-true n 0 e in omega arith)
-  failed (negsuc k) e = refl
-
-  came : (z : ℤ) → lt_z z (pos 0) ≡ false → (of_z w64 z ≡ 0 → ⊥) → Moved (length buffer) z
-      → (n : ℕ) → n ≡ clamp_len z (length buffer) → (r : Went) → Heard j (take n buffer) r → Took j z buffer r
-  came (negsuc k) e o m n c r h = absurd (false≢true (sym e))
-  came (pos zero) e o m n c r h = absurd (o refl)
-  came (pos (suc k)) e o m n c r h =
-      let all : min (suc k) (length buffer) ≡ suc k = omega arith in
-      subst (λ (i : ℕ). Heard j (take i buffer) r) (c ∙ all) h
-
-  module _ (got : ℤ) (fit : SFits w64 got) where
-    pub took_failed : lt_z (to_z w64 (of_z w64 got)) (pos 0) ≡ true → Took j got buffer (stopped j false)
-    took_failed e = failed got (subst (λ (z : ℤ). lt_z z (pos 0) ≡ true) (to_z-of_z fit) e)
-
-    pub took_ended : of_z w64 got ≡ 0 → Took j got buffer (stopped j true)
-    took_ended e = subst (λ (z : ℤ). Took j z buffer (stopped j true)) (ap (to_z w64) (sym e) ∙ to_z-of_z fit) refl
-
-    pub took_heard : lt_z (to_z w64 (of_z w64 got)) (pos 0) ≡ false → (of_z w64 got ≡ 0 → ⊥) → Moved (length buffer) got
-        → (n : ℕ) → n ≡ clamp_len (to_z w64 (of_z w64 got)) (length buffer)
-        → (r : Went) → Heard j (take n buffer) r → Took j got buffer r
-    took_heard e o m n c r h =
-        came got (subst (λ (z : ℤ). lt_z z (pos 0) ≡ false) (to_z-of_z fit) e) o m n
-        (c ∙ ap (λ (z : ℤ). clamp_len z (length buffer)) (to_z-of_z fit)) r h
-
--- the answer, as it is handed on
-pub moved_back : (m n : ℕ) (z : ℤ) → SFits w64 z → m ≡ n → Moved n z → Moved m (to_z w64 (of_z w64 z))
-moved_back m n z f e h = subst (λ (y : ℤ). Moved m y) (sym (to_z-of_z f)) (subst (λ (k : ℕ). Moved k z) (sym e) h)
-
--- ---- all reads
 
 -- the journal after some bytes more
 record Onward (j : Journal) (w : Went) : Type 0 where
@@ -72,25 +29,74 @@ stands j b w g e = record {
   goes = subst (λ (i : Journal). Goes i) (sym (ap (λ (x : Went). x.journal) e)) g;
 }
 
-onward : (j : Journal) (buffer : List ℕ) (w : Went) → Goes j → (z : ℤ) → Took j z buffer w → Onward j w
-onward j buffer w g (negsuc k) t = stands j false w g t
-onward j buffer w g (pos zero) t = stands j true w g t
-onward j buffer w g (pos (suc n)) t =
+onward : (j : Journal) (buffer : List ℕ) (w : Went) → Goes j → (r : Result ℕ Error) → Took j r buffer w → Onward j w
+onward j buffer w g (Err e) t = stands j false w g t
+onward j buffer w g (Ok zero) t = stands j true w g t
+onward j buffer w g (Ok (suc n)) t =
     record { bytes = take t.up_to (take (suc n) buffer); journal = t.journal; goes = t.goes }
 
 both : (a b : Bool) → (a && b) ≡ true → b ≡ true
 both true b e = e
-both false b e = absurd (false≢true e)
+both false b e = absurd (true≢false (sym e))
 
 -- there is more to read: a line may still be read
-left_some : (j : Journal) (buffer : List ℕ) (w : Went) → w.more ≡ true → (z : ℤ) → Took j z buffer w
+left_some : (j : Journal) (buffer : List ℕ) (w : Went) → w.more ≡ true → (r : Result ℕ Error) → Took j r buffer w
     → 0 < w.journal.left
-left_some j buffer w m (negsuc k) t = absurd (false≢true (sym (ap (λ (x : Went). x.more) t) ∙ m))
-left_some j buffer w m (pos zero) t = absurd (false≢true (sym (ap (λ (x : Went). x.more) t) ∙ m))
-left_some j buffer w m (pos (suc n)) t = ltb-true 0 w.journal.left (both w.well _ (sym t.more ∙ m))
+left_some j buffer w m (Err e) t = absurd (true≢false (sym m ∙ ap (λ (x : Went). x.more) t))
+left_some j buffer w m (Ok zero) t = absurd (true≢false (sym m ∙ ap (λ (x : Went). x.more) t))
+left_some j buffer w m (Ok (suc n)) t = ltb-true 0 w.journal.left (both w.well _ (sym t.more ∙ m))
+
+-- there is more to read: all went well
+more_well : (j : Journal) (buffer : List ℕ) (w : Went) → w.more ≡ true → (r : Result ℕ Error) → Took j r buffer w
+    → w.well ≡ true
+more_well j buffer w m (Err e) t = absurd (true≢false (sym m ∙ ap (λ (x : Went). x.more) t))
+more_well j buffer w m (Ok zero) t = ap (λ (x : Went). x.well) t
+more_well j buffer w m (Ok (suc n)) t = first w.well _ (sym t.more ∙ m)
+  where
+    first : (a b : Bool) → (a && b) ≡ true → a ≡ true
+    first true b e = refl
+    first false b e = e
+
+-- nothing was given: nothing is answered
+pub nothing : (c : Option (List ℕ)) (j : Journal) (r : Result ℕ Error) (buffer : List ℕ) (n : ℕ) → r ≡ Ok n → n ≡ 0
+    → Appends c c (feed standard (viewed j) (came r buffer)).put
+unfolding feed
+nothing c j r buffer n e z =
+    subst (λ (x : List ℕ). Appends c c (feed standard (viewed j) x).put)
+    (sym (ap (λ (x : Result ℕ Error). came x buffer) e ∙ ap (λ (m : ℕ). take m buffer) z)) (Appends-none c)
+
+none_left : (n : ℕ) → ltb 0 n ≡ false → n ≡ 0
+none_left n e = let h = ltb-false 0 n e in omega arith
+
+-- what a read took from the input and put into the output
+pub moves : (j : Journal) (r : Result ℕ Error) (buffer : List ℕ) (w : Went) → Took j r buffer w
+    → (i i' : Option (List ℕ)) → ReadConsumes i i' r buffer
+    → (c c' : Option (List ℕ)) → (w.well ≡ true → Appends c c' (feed standard (viewed j) (came r buffer)).put)
+    → Moves j (length buffer) i i' c c' w
+unfolding feed
+moves j (Err e) buffer w t i i' k c c' a well = absurd (true≢false (sym well ∙ ap (λ (x : Went). x.well) t))
+moves j (Ok zero) buffer w t i i' k c c' a well = record {
+  bytes = [];
+  read = k.0;
+  wrote = a well;
+  journal = ap (λ (x : Went). viewed x.journal) t;
+  ends = λ m h. inr (k.1 refl h);
+}
+moves j (Ok (suc n)) buffer w t i i' k c c' a well = record {
+  bytes = take (suc n) buffer;
+  read = k.0;
+  wrote = a well;
+  journal = t.journal ∙ ap (λ (l : List ℕ). (feed standard (viewed j) l).journal)
+      (take_all t.up_to (take (suc n) buffer) (let e = t.all well in omega arith));
+  ends = λ m h.
+      inl (none_left w.journal.left (sym (ap (λ (b : Bool). b && ltb 0 w.journal.left) well) ∙ sym t.more ∙ m));
+}
+
+-- ---- all reads
 
 -- what stands between two reads
-pub record Reading (j₀ : Journal) (buffer₀ out₀ buffer out : List ℕ) (j : Journal) : Type 0 where
+pub record Reading (j₀ : Journal) (buffer₀ out₀ : List ℕ) (i₀ c₀ : Option (List ℕ)) (buffer out : List ℕ)
+    (i c : Option (List ℕ)) (j : Journal) : Type 0 where
   pub goes : Goes j
   pub some : 0 < j.left
   pub bytes : List ℕ
@@ -98,39 +104,81 @@ pub record Reading (j₀ : Journal) (buffer₀ out₀ buffer out : List ℕ) (j 
   pub buffers : length buffer ≡ length buffer₀
   pub outs : length out ≡ length out₀
   pub room : 80 ≤ length out₀
+  pub read : Consumes i₀ i bytes
+  pub wrote : Appends c₀ c (feed standard (viewed j₀) bytes).put
 
-pub read_begins : (j : Journal) (buffer out : List ℕ) → Goes j → 0 < j.left → 80 ≤ length out
-    → Reading j buffer out buffer out j
+Consumes-none : (i : Option (List ℕ)) → Consumes i i []
+Consumes-none Option.None = tt
+Consumes-none (Option.Some l) = refl
+
+pub read_begins : (j : Journal) (buffer out : List ℕ) (i c : Option (List ℕ)) → Goes j → 0 < j.left → 80 ≤ length out
+    → Reading j buffer out i c buffer out i c j
 unfolding feed
-read_begins j buffer out g l r =
-    record { goes = g; some = l; bytes = []; journal = refl; buffers = refl; outs = refl; room = r }
+read_begins j buffer out i c g l r = record {
+  goes = g;
+  some = l;
+  bytes = [];
+  journal = refl;
+  buffers = refl;
+  outs = refl;
+  room = r;
+  read = Consumes-none i;
+  wrote = Appends-none c;
+}
 
-module _ (j₀ : Journal) (buffer₀ out₀ buffer out : List ℕ) (j : Journal)
-    (k : Reading j₀ buffer₀ out₀ buffer out j) where
-  module _ (is : List ℕ) (w : Went) (r : Read j is w) where
+module _ (j₀ : Journal) (buffer₀ out₀ : List ℕ) (i₀ c₀ : Option (List ℕ)) (buffer out : List ℕ)
+    (i c : Option (List ℕ)) (j : Journal) (k : Reading j₀ buffer₀ out₀ i₀ c₀ buffer out i c j) where
+  -- some bytes more
+  then : (l : List ℕ) → (feed standard (viewed j) l).journal ≡ (feed standard (viewed j₀) (k.bytes ++ l)).journal
+  then l =
+      ap (λ (v : Pieces.Journal). (feed standard v l).journal) k.journal
+      ∙ sym (ap (λ (f : Pieces.Fed). f.journal) (feed_append standard (viewed j₀) k.bytes l))
+
+  then_put : (l : List ℕ) → (feed standard (viewed j₀) k.bytes).put ++ (feed standard (viewed j) l).put
+      ≡ (feed standard (viewed j₀) (k.bytes ++ l)).put
+  then_put l =
+      ap (λ (v : Pieces.Journal). (feed standard (viewed j₀) k.bytes).put ++ (feed standard v l).put) k.journal
+      ∙ sym (ap (λ (f : Pieces.Fed). f.put) (feed_append standard (viewed j₀) k.bytes l))
+
+  module _ (is : List ℕ) (w : Went) (r : Read j is w) (i' c' : Option (List ℕ))
+      (m : Moves j (length buffer) i i' c c' w) where
     more : Onward j w
     more = onward j is w k.goes r.got r.took
 
-    after : viewed w.journal ≡ (feed standard (viewed j₀) (k.bytes ++ more.bytes)).journal
-    after =
-        more.journal
-        ∙ ap (λ (i : Pieces.Journal). (feed standard i more.bytes).journal) k.journal
-        ∙ sym (ap (λ (f : Pieces.Fed). f.journal) (feed_append standard (viewed j₀) k.bytes more.bytes))
-
     pub read_turns : w.more ≡ true → length is ≡ length buffer → (outs : List ℕ) → length outs ≡ length out
-        → Reading j₀ buffer₀ out₀ is outs w.journal
-    read_turns m e outs f = record {
-      goes = more.goes;
-      some = left_some j is w m r.got r.took;
-      bytes = k.bytes ++ more.bytes;
-      journal = after;
-      buffers = e ∙ k.buffers;
-      outs = f ∙ k.outs;
-      room = k.room;
-    }
+        → Reading j₀ buffer₀ out₀ i₀ c₀ is outs i' c' w.journal
+    read_turns e b outs f =
+        let n = m (more_well j is w e r.got r.took) in
+        record {
+          goes = more.goes;
+          some = left_some j is w e r.got r.took;
+          bytes = k.bytes ++ n.bytes;
+          journal = n.journal ∙ then n.bytes;
+          buffers = b ∙ k.buffers;
+          outs = f ∙ k.outs;
+          room = k.room;
+          read = Consumes-trans _ _ _ _ _ k.read n.read;
+          wrote = subst (Appends c₀ c') (then_put n.bytes) (Appends-trans _ _ _ _ _ k.wrote n.wrote);
+        }
+
+    pub all_moved : Moves j₀ (length buffer₀) i₀ i' c₀ c' w
+    all_moved well =
+        let n = m well in
+        record {
+          bytes = k.bytes ++ n.bytes;
+          read = Consumes-trans _ _ _ _ _ k.read n.read;
+          wrote = subst (Appends c₀ c') (then_put n.bytes) (Appends-trans _ _ _ _ _ k.wrote n.wrote);
+          journal = n.journal ∙ then n.bytes;
+          ends = λ e h. n.ends e (let l = k.buffers in omega arith);
+        }
 
     pub read_ends : w.more ≡ false → Reads j₀ w
-    read_ends m = record { bytes = k.bytes ++ more.bytes; journal = after; stops = m; goes = more.goes }
+    read_ends m = record {
+      bytes = k.bytes ++ more.bytes;
+      journal = more.journal ∙ then more.bytes;
+      stops = m;
+      goes = more.goes;
+    }
 
   -- no run gets there
   pub read_stops : Reads j₀ (record { journal = j; more = false; well = false })

@@ -1,32 +1,41 @@
 // The journal program (document 01, "Journal program"): reads lines from standard input, and answers each on standard
 // output.
+#![tactic(auto)]
+
 ghost use Rattle.std.specs.Prelude.{◌≡◌, true, ◌≤◌, ◌<◌, length, take};
-ghost use Rattle.io.specs.Counts.{IsPrefixLen};
-ghost use Rattle.libc.specs.Io.{Moved};
-ghost use Rattle.journal_lines.specs.Pieces.{end};
+ghost use Rattle.std.specs.Io.{ReadsAtMost};
+ghost use Rattle.std.specs.Io.KnownBytes.{Appends};
+ghost use Rattle.ranges.specs.Settings.{standard};
+ghost use Rattle.journal_lines.specs.Pieces.{end, feed};
 ghost use Rattle.journal_lines.specs.Parts.{Goes, viewed};
-ghost use Rattle.journal.specs.Program.{Answers, Closes, Heard, Read, Reads, Serves, Took, going};
+ghost use Rattle.journal.specs.Program.{Answers, Closes, Heard, Moves, Read, Reads, Serves, Took, Whole, came, going};
 
 use journal_lines::Journal;
 use journal_lines::inner::ends::{end, start};
 use journal_lines::inner::feed::feed;
-use libc::{STDIN_FILENO, STDOUT_FILENO};
+use std::io;
+use std::io::{Read, Write};
+use std::process::ExitCode;
 
 // The journal after what was read, whether there is more to read, and whether reading and writing went well.
-#[derive(Drop)]
+#[derive(Clone, Copy)]
 struct Went {
     journal: Journal,
     more: bool,
     well: bool,
 }
 
-// Writes, or says why it cannot. No contract says what goes out: it is what this is handed.
-fn write(bytes: &[u8]) -> bool {
-    let is_written = io::write_all(STDOUT_FILENO, bytes);
-    if !is_written {
-        os::fail(b"journal: cannot write to standard output");
+// Writes, or says why it cannot.
+fn write<W: Write, E: Eprint>(to: &mut W, rt: &E, bytes: &[u8]) -> bool
+    ensures { result ≡ true → Appends (W.contents to.old) (W.contents to.new) bytes.now }
+{
+    match to.write_all(bytes) {
+        Ok(()) => true,
+        Err(e) => {
+            let _ = eprintln!(rt; "journal: cannot write to standard output: {e}");
+            false
+        }
     }
-    is_written
 }
 
 // Goes on with a journal: after the last line that may be read there is no more to read.
@@ -50,94 +59,145 @@ fn go_on(journal: Journal, well: bool) -> Went
 
 // Writes the answers to what was heard, and goes on with the journal after it. `was` and `heard` stand here for what is
 // asked: they say whose answers these are.
-fn put(was: Went, heard: &[u8], next: Journal, answers: &[u8]) -> Went
+fn put<W: Write, E: Eprint>(
+    was: Went,
+    heard: &[u8],
+    next: Journal,
+    answers: &[u8],
+    to: &mut W,
+    rt: &E,
+) -> Went
     requires well_value { was.well ≡ true }
     requires answers { Answers was.journal heard.now next answers.now }
-    ensures { result ≡ going next result.well }
+    ensures value { result ≡ going next result.well }
+    ensures wrote { result.well ≡ true → Appends (W.contents to.old) (W.contents to.new) answers.now }
 {
-    go_on(next, write(answers))
+    go_on(next, write(to, rt, answers))
 }
 
 // A piece of the input is answered, a buffer full at a time.
-fn answer(j: Journal, piece: &[u8], out: &mut [u8]) -> Went
+fn answer<W: Write, E: Eprint>(j: Journal, piece: &[u8], out: &mut [u8], to: &mut W, rt: &E) -> Went
     requires goes { Goes j }
     requires in_bounds { 80 ≤ length out.old }
-    ensures { Heard j piece.now result }
+    ensures heard { Heard j piece.now result }
+    ensures wrote { result.well ≡ true →
+        Appends (W.contents to.old) (W.contents to.new) (feed standard (viewed j) piece.now).put }
 {
     let mut went = go_on(j, true);
     let mut at: usize = 0;
     while at < piece.len() {
         let r = feed(went.journal, &piece[at..], out);
-        let to = at + r.used;
+        let next = at + r.used;
         let n = r.put;
-        went = put(went, &piece[at..to], r.journal, &out[..n]);
+        went = put(went, &piece[at..next], r.journal, &out[..n], to, rt);
         if !went.well {
             return went;
         }
-        at = to;
+        at = next;
     }
     went
 }
 
 // The bytes at the front of a buffer are answered.
-fn answer_front(j: Journal, n: usize, buffer: &[u8], out: &mut [u8]) -> Went
+fn answer_front<W: Write, E: Eprint>(
+    j: Journal,
+    n: usize,
+    buffer: &[u8],
+    out: &mut [u8],
+    to: &mut W,
+    rt: &E,
+) -> Went
     requires goes { Goes j }
-    requires prefix_len { IsPrefixLen n buffer.now }
+    requires prefix_len { n ≤ length buffer.now }
     requires in_bounds { 80 ≤ length out.old }
-    ensures { Heard j (take n buffer.now) result }
+    ensures heard { Heard j (take n buffer.now) result }
+    ensures wrote { result.well ≡ true →
+        Appends (W.contents to.old) (W.contents to.new) (feed standard (viewed j) (take n buffer.now)).put }
 {
-    answer(j, &buffer[..n], out)
+    answer(j, &buffer[..n], out, to, rt)
 }
 
 // What a read answered: it failed, the input is at its end, or so many bytes stand at the front of the buffer.
-fn take(j: Journal, got: isize, buffer: &[u8], out: &mut [u8]) -> Went
+#[tactic(auto, using(crate::proofs::Taking::nothing))]
+fn take<W: Write, E: Eprint>(
+    j: Journal,
+    got: io::Result<usize>,
+    buffer: &[u8],
+    out: &mut [u8],
+    to: &mut W,
+    rt: &E,
+) -> Went
     requires goes { Goes j }
-    requires moved { Moved (length buffer.now) got }
+    requires moved { ReadsAtMost got buffer.now }
     requires in_bounds { 80 ≤ length out.old }
-    ensures { Took j got buffer.now result }
+    ensures took { Took j got buffer.now result }
+    ensures wrote { result.well ≡ true →
+        Appends (W.contents to.old) (W.contents to.new) (feed standard (viewed j) (came got buffer.now)).put }
 {
-    if got < 0 {
-        os::fail(b"journal: cannot read from standard input");
-        return Went {
-            journal: j,
-            more: false,
-            well: false,
-        };
+    match got {
+        Err(e) => {
+            let _ = eprintln!(rt; "journal: cannot read from standard input: {e}");
+            Went {
+                journal: j,
+                more: false,
+                well: false,
+            }
+        }
+        Ok(n) => {
+            if n == 0 {
+                return Went {
+                    journal: j,
+                    more: false,
+                    well: true,
+                };
+            }
+            answer_front(j, n, buffer, out, to, rt)
+        }
     }
-    if got == 0 {
-        return Went {
-            journal: j,
-            more: false,
-            well: true,
-        };
-    }
-    answer_front(j, io::count(got, buffer), buffer, out)
 }
 
 // Reads once, and answers what came. It is asked only while a line may be read.
-fn read_some(j: Journal, buffer: &mut [u8], out: &mut [u8]) -> Went
+fn read_some<I: Read, W: Write, E: Eprint>(
+    j: Journal,
+    buffer: &mut [u8],
+    out: &mut [u8],
+    from: &mut I,
+    to: &mut W,
+    rt: &E,
+) -> Went
     requires goes { Goes j }
     requires left_nonzero { 0 < j.left }
     requires in_bounds { 80 ≤ length out.old }
-    ensures { Read j buffer.new result }
+    ensures read { Read j buffer.new result }
+    ensures moves { Moves j (length buffer.old) (I.remaining from.old) (I.remaining from.new) (W.contents to.old)
+        (W.contents to.new) result }
 {
-    let got = libc::read(STDIN_FILENO, buffer);
-    take(j, got, buffer, out)
+    let got = from.read(buffer);
+    take(j, got, buffer, out, to, rt)
 }
 
 // Reads and answers until there is no more. A proved loop has to end, and nothing says that an input does: the loop
 // counts its turns down, from a number that no run uses up.
-fn run(j: Journal, buffer: &mut [u8], out: &mut [u8]) -> Went
+fn run<I: Read, W: Write, E: Eprint>(
+    j: Journal,
+    buffer: &mut [u8],
+    out: &mut [u8],
+    from: &mut I,
+    to: &mut W,
+    rt: &E,
+) -> Went
     requires goes { Goes j }
     requires left_nonzero { 0 < j.left }
     requires in_bounds { 80 ≤ length out.old }
-    ensures { Reads j result }
+    ensures reads { Reads j result }
+    ensures moves { Moves j (length buffer.old) (I.remaining from.old) (I.remaining from.new) (W.contents to.old)
+        (W.contents to.new) result }
 {
     let mut journal = j;
     let mut turns = u64::MAX;
     while turns > 0 {
         turns -= 1;
-        let w = read_some(journal, buffer, out);
+        let w = read_some(journal, buffer, out, from, to, rt);
         journal = w.journal;
         if !w.more {
             return w;
@@ -151,23 +211,26 @@ fn run(j: Journal, buffer: &mut [u8], out: &mut [u8]) -> Went
 }
 
 // Writes what there is at the end, after answers that all were written. `was` stands here for what is asked.
-fn put_last(was: Went, answers: &[u8]) -> bool
+fn put_last<W: Write, E: Eprint>(was: Went, answers: &[u8], to: &mut W, rt: &E) -> bool
     requires well_value { was.well ≡ true }
     requires answers_value { answers.now ≡ end (viewed was.journal) }
+    ensures { result ≡ true → Appends (W.contents to.old) (W.contents to.new) answers.now }
 {
-    write(answers)
+    write(to, rt, answers)
 }
 
 // The end of the input: a last line without its newline is answered.
-fn close(w: Went, out: &mut [u8]) -> Went
+fn close<W: Write, E: Eprint>(w: Went, out: &mut [u8], to: &mut W, rt: &E) -> Went
     requires goes { Goes w.journal }
     requires well_value { w.well ≡ true }
     requires in_bounds { 80 ≤ length out.old }
-    ensures { Closes w out.old out.new result }
+    ensures closes { Closes w out.old out.new result }
+    ensures wrote { result.well ≡ true →
+        Appends (W.contents to.old) (W.contents to.new) (end (viewed w.journal)) }
 {
     let journal = w.journal;
     let n = end(journal, out);
-    let well = put_last(w, &out[..n]);
+    let well = put_last(w, &out[..n], to, rt);
     Went {
         journal,
         more: false,
@@ -176,19 +239,38 @@ fn close(w: Went, out: &mut [u8]) -> Went
 }
 
 // All of it, from a fresh journal to the end of the input.
-fn serve(buffer: &mut [u8], out: &mut [u8]) -> Went
+fn serve<I: Read, W: Write, E: Eprint>(
+    buffer: &mut [u8],
+    out: &mut [u8],
+    from: &mut I,
+    to: &mut W,
+    rt: &E,
+) -> Went
     requires { 80 ≤ length out.old }
-    ensures { Serves out.new result }
+    ensures serves { Serves out.new result }
+    ensures whole { 0 < length buffer.old → result.well ≡ true →
+        Whole (I.remaining from.old) (W.contents to.old) (W.contents to.new) }
 {
-    let w = run(start(), buffer, out);
+    let w = run(start(), buffer, out, from, to, rt);
     if w.well {
-        return close(w, out);
+        return close(w, out, to, rt);
     }
     w
 }
 
-fn main() {
-    let mut buffer = io::large_buffer();
-    let mut out = io::large_buffer();
-    serve(&mut buffer, &mut out);
+fn main(rt: HostRuntime) -> ExitCode {
+    let mut buffer = [0u8; 65536];
+    let mut out = [0u8; 65536];
+    let went = serve(
+        &mut buffer,
+        &mut out,
+        &mut rt.stdin(),
+        &mut rt.stdout(),
+        &rt,
+    );
+    if went.well {
+        ExitCode::SUCCESS
+    } else {
+        ExitCode::FAILURE
+    }
 }

@@ -1,34 +1,44 @@
-// Replays a list of calls of `sender`, one a line of standard input, and prints after each the answer and the statistics as they are.
-// stdin was written by `oracle replay sender crates/sender_replay`, and stdout by the Rust that the library replaces, from the same
-// list. A line is a letter, the number of a class and three fields of 8 hexadecimal digits, parted by blanks: O observe (duration,
-// dit), M mean_dits, R dash_dot_ratio, W sender_word_dits, P is_pause (dits), E estimates (dit), S sets a class (mean, variance,
-// count), N starts anew.
+// Replays a list of calls of `sender`, one a line of standard input, and prints after each the answer and the
+// statistics as they are. stdin was written by `oracle replay sender crates/sender_replay`, and stdout by the Rust that
+// the library replaces, from the same list. A line is a letter, the number of a class and three fields of 8 hexadecimal
+// digits, parted by blanks: O observe (duration, dit), M mean_dits, R dash_dot_ratio, W sender_word_dits, P is_pause
+// (dits), E estimates (dit), S sets a class (mean, variance, count), N starts anew.
+#![tactic(auto)]
+
 use exports::of_sender as calls;
 use replay::{float, put_byte, put_float, put_word};
 use sender::{ClassStats, Dits, SenderTiming};
+use std::io;
+use std::io::{BufWriter, Read, Write};
 
 // A class: its mean, its variance, its count.
-fn put_class(c: ClassStats) {
-    put_float(c.mean.0);
-    put_float(c.var);
-    put_word(c.n);
+fn put_class<W: Write>(out: &mut W, c: ClassStats) -> io::Result<()> {
+    put_float(out, c.mean.0)?;
+    put_float(out, c.var)?;
+    put_word(out, c.n)
 }
 
 // The five classes.
-fn put_classes(t: SenderTiming) {
-    put_class(t.dot);
-    put_class(t.dash);
-    put_class(t.element_gap);
-    put_class(t.char_gap);
-    put_class(t.word_gap);
+fn put_classes<W: Write>(out: &mut W, t: SenderTiming) -> io::Result<()> {
+    put_class(out, t.dot)?;
+    put_class(out, t.dash)?;
+    put_class(out, t.element_gap)?;
+    put_class(out, t.char_gap)?;
+    put_class(out, t.word_gap)
 }
 
 // The start of an answer: letter, code, whether there is a number or yes, and the number.
-fn put_answer(letter: u8, code: u8, has: bool, value: f32) {
-    put_byte(letter);
-    replay::put_code(code);
-    replay::put_flag(has);
-    put_float(value);
+fn put_answer<W: Write>(
+    out: &mut W,
+    letter: u8,
+    code: u8,
+    has: bool,
+    value: f32,
+) -> io::Result<()> {
+    put_byte(out, letter)?;
+    replay::put_code(out, code)?;
+    replay::put_flag(out, has)?;
+    put_float(out, value)
 }
 
 // The statistics with one class set.
@@ -46,34 +56,40 @@ fn with_class(t: SenderTiming, class: u8, c: ClassStats) -> SenderTiming {
 }
 
 // A call that reads a number.
-fn put_number(letter: u8, n: calls::SenderNumber) {
-    put_answer(letter, n.code, n.has, n.value);
+fn put_number<W: Write>(out: &mut W, letter: u8, n: calls::SenderNumber) -> io::Result<()> {
+    put_answer(out, letter, n.code, n.has, n.value)
 }
 
-fn put_pause(t: SenderTiming, dits: f32) {
+fn put_pause<W: Write>(out: &mut W, t: SenderTiming, dits: f32) -> io::Result<()> {
     let r = calls::hullathan_sender_is_pause_by_value(t, dits);
-    put_answer(b'P', r.code, r.yes, 0.0);
+    put_answer(out, b'P', r.code, r.yes, 0.0)
 }
 
-fn put_report(t: SenderTiming, dit_ms: f32) {
+fn put_report<W: Write>(out: &mut W, t: SenderTiming, dit_ms: f32) -> io::Result<()> {
     let r = calls::hullathan_sender_estimates(t, dit_ms);
-    put_answer(b'E', r.code, false, r.dit_ms);
-    put_classes(r.classes);
+    put_answer(out, b'E', r.code, false, r.dit_ms)?;
+    put_classes(out, r.classes)
 }
 
 // A call that only reads.
-fn read_call(t: SenderTiming, letter: u8, class: u8, x: f32) {
+fn read_call<W: Write>(
+    out: &mut W,
+    t: SenderTiming,
+    letter: u8,
+    class: u8,
+    x: f32,
+) -> io::Result<()> {
     match letter {
-        b'M' => put_number(letter, calls::hullathan_sender_mean_dits(t, class)),
-        b'R' => put_number(letter, calls::hullathan_sender_dash_dot_ratio(t)),
-        b'W' => put_number(letter, calls::hullathan_sender_word_dits(t)),
-        b'P' => put_pause(t, x),
-        _ => put_report(t, x),
+        b'M' => put_number(out, letter, calls::hullathan_sender_mean_dits(t, class)),
+        b'R' => put_number(out, letter, calls::hullathan_sender_dash_dot_ratio(t)),
+        b'W' => put_number(out, letter, calls::hullathan_sender_word_dits(t)),
+        b'P' => put_pause(out, t, x),
+        _ => put_report(out, t, x),
     }
 }
 
 // One line: what the statistics are afterwards.
-fn run(t: SenderTiming, line: &[u8; 31]) -> SenderTiming {
+fn run<W: Write>(out: &mut W, t: SenderTiming, line: &[u8; 31]) -> io::Result<SenderTiming> {
     let letter = replay::letter(line);
     let class = replay::number(line);
     let x = float(replay::first(line));
@@ -81,60 +97,61 @@ fn run(t: SenderTiming, line: &[u8; 31]) -> SenderTiming {
     match letter {
         b'O' => {
             let r = calls::hullathan_sender_observe_by_value(t, class, x, y);
-            put_answer(letter, r.code, false, 0.0);
-            r.timing
+            put_answer(out, letter, r.code, false, 0.0)?;
+            Ok(r.timing)
         }
         b'S' => {
-            put_answer(letter, 0, false, 0.0);
+            put_answer(out, letter, 0, false, 0.0)?;
             let c = ClassStats {
                 mean: Dits(x),
                 var: y,
                 n: replay::third(line),
             };
-            with_class(t, class, c)
+            Ok(with_class(t, class, c))
         }
         b'N' => {
-            put_answer(letter, 0, false, 0.0);
-            calls::hullathan_sender_new()
+            put_answer(out, letter, 0, false, 0.0)?;
+            Ok(calls::hullathan_sender_new())
         }
         _ => {
-            read_call(t, letter, class, x);
-            t
+            read_call(out, t, letter, class, x)?;
+            Ok(t)
         }
     }
 }
 
 // One line in and one out: the statistics after it, and whether there was a line.
-#[derive(Drop)]
+#[derive(Clone, Copy)]
 struct After {
     timing: SenderTiming,
     more: bool,
 }
 
-fn step(t: SenderTiming) -> After {
+fn step<I: Read, W: Write>(input: &mut I, out: &mut W, t: SenderTiming) -> io::Result<After> {
     let mut line = [0u8; 31];
-    if replay::next(&mut line) {
-        let timing = run(t, &line);
-        put_classes(timing);
-        put_byte(b'\n');
-        return After { timing, more: true };
+    if replay::next(input, &mut line)? {
+        let timing = run(out, t, &line)?;
+        put_classes(out, timing)?;
+        put_byte(out, b'\n')?;
+        return Ok(After { timing, more: true });
     }
-    After {
+    Ok(After {
         timing: t,
         more: false,
-    }
+    })
 }
 
-// A proved loop has to end, so the turns are counted down from a number that no run uses up.
-fn main() {
+// A proved loop has to end, so the turns are counted: no run uses them up.
+fn main(rt: HostRuntime) -> io::Result<()> {
+    let mut input = rt.stdin();
+    let mut out = BufWriter::new(rt.alloc(), rt.stdout())?;
     let mut t = calls::hullathan_sender_new();
-    let mut turns = u64::MAX;
-    while turns > 0 {
-        let s = step(t);
+    for _ in 0..u64::MAX {
+        let s = step(&mut input, &mut out, t)?;
         t = s.timing;
-        turns -= 1;
         if !s.more {
-            turns = 0;
+            break;
         }
     }
+    out.flush()
 }
