@@ -7,7 +7,7 @@ pub mod calls;
 pub mod inner;
 
 // A bank: a list is an array and a count, an optional number is a flag and a number.
-#[derive(Drop)]
+#[derive(Clone, Copy)]
 pub struct TimingBank {
     pub width: usize,
     pub switching: bool,
@@ -33,7 +33,7 @@ pub struct TimingBank {
 }
 
 // A bank after a call, and those that left it in the call.
-#[derive(Drop)]
+#[derive(Clone, Copy)]
 pub struct Changed {
     pub bank: TimingBank,
     pub left: [Departure; MOST_LEFT],
@@ -41,21 +41,21 @@ pub struct Changed {
 }
 
 // The answer of a call that may send challengers away, and what it changed.
-#[derive(Drop)]
+#[derive(Clone, Copy)]
 pub struct Answered {
     pub told: Told,
     pub changed: Changed,
 }
 
 // The answer of a call that none leaves at, and the bank that is handed back.
-#[derive(Drop)]
+#[derive(Clone, Copy)]
 pub struct Heard {
     pub told: Told,
     pub bank: TimingBank,
 }
 
 // The answer of a switch call: whether the two were exchanged, the bank, the primary, and the primary's serial.
-#[derive(Drop)]
+#[derive(Clone, Copy)]
 pub struct Switched {
     pub flag: Flag,
     pub bank: TimingBank,
@@ -64,14 +64,14 @@ pub struct Switched {
 }
 
 // The answer of a call that tells a count.
-#[derive(Drop)]
+#[derive(Clone, Copy)]
 pub enum Tally {
     Is(u64),
     Refused(u8),
 }
 
 // Whether there is one, or why it is not told.
-#[derive(Drop)]
+#[derive(Clone, Copy)]
 pub enum Place {
     Held,
     Absent,
@@ -79,14 +79,14 @@ pub enum Place {
 }
 
 // The answer of a call that tells of a challenger; where there is none, the hypothesis says nothing.
-#[derive(Drop)]
+#[derive(Clone, Copy)]
 pub struct Challenger {
     pub place: Place,
     pub hypothesis: TimingHypothesis,
 }
 
 // The answer of a call that tells of a switch record.
-#[derive(Drop)]
+#[derive(Clone, Copy)]
 pub enum Logged {
     Is(SwitchRecord),
     Absent,

@@ -1,8 +1,10 @@
 // What the bank of rivals is made of, below its state: where a hypothesis came from, how one leaves, what a switch leaves in the log.
+#![tactic(auto)]
+
 pub mod inner;
 
 // Where a hypothesis came from; a former primary has marks of protection left.
-#[derive(Drop)]
+#[derive(Clone, Copy)]
 pub enum Origin {
     Bootstrap,
     Streak,
@@ -10,7 +12,7 @@ pub enum Origin {
 }
 
 // Why a hypothesis left.
-#[derive(Drop)]
+#[derive(Clone, Copy)]
 pub enum Cause {
     Twin,
     Outscored,
@@ -23,7 +25,7 @@ pub enum Cause {
 pub const MOST_LEFT: usize = 7;
 
 // A hypothesis that left.
-#[derive(Drop)]
+#[derive(Clone, Copy)]
 pub struct Departure {
     pub serial: u64,
     pub cause: Cause,
@@ -31,7 +33,7 @@ pub struct Departure {
 
 // One switch that the bank made, or would have made.
 #[repr(C)]
-#[derive(Drop)]
+#[derive(Clone, Copy)]
 pub struct SwitchRecord {
     pub mark_index: u64,
     pub from_dit_ms: f32,
@@ -40,7 +42,7 @@ pub struct SwitchRecord {
 }
 
 // The place of the best score found so far, and that score.
-#[derive(Drop)]
+#[derive(Clone, Copy)]
 pub enum Best {
     Unfound,
     Found(usize, f32),

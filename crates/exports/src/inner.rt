@@ -20,7 +20,7 @@ use tracker::SpeedTracker;
 
 // A bank after a call, and those that left it in the call.
 #[repr(C)]
-#[derive(Drop)]
+#[derive(Clone, Copy)]
 pub struct BankChanged {
     pub bank: PlainBank,
     pub left: [PlainDeparture; MOST_LEFT],
@@ -29,7 +29,7 @@ pub struct BankChanged {
 
 // A bank and a primary after a switch call, the primary's serial, and whether the two were exchanged.
 #[repr(C)]
-#[derive(Drop)]
+#[derive(Clone, Copy)]
 pub struct BankTaken {
     pub bank: PlainBank,
     pub primary: SpeedTracker,

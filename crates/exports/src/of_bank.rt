@@ -21,7 +21,7 @@ use tracker::SpeedTracker;
 
 // The answer of a call that may send challengers away: the code is 0 or the number of the refusal.
 #[repr(C)]
-#[derive(Drop)]
+#[derive(Clone, Copy)]
 pub struct BankAnswered {
     pub code: u8,
     pub bank: PlainBank,
@@ -31,7 +31,7 @@ pub struct BankAnswered {
 
 // The answer of a call that none leaves at.
 #[repr(C)]
-#[derive(Drop)]
+#[derive(Clone, Copy)]
 pub struct BankHeard {
     pub code: u8,
     pub bank: PlainBank,
@@ -39,7 +39,7 @@ pub struct BankHeard {
 
 // The answer of a switch call: whether the two were exchanged.
 #[repr(C)]
-#[derive(Drop)]
+#[derive(Clone, Copy)]
 pub struct BankSwitched {
     pub code: u8,
     pub yes: bool,
@@ -50,7 +50,7 @@ pub struct BankSwitched {
 
 // The answer of a call that tells a count.
 #[repr(C)]
-#[derive(Drop)]
+#[derive(Clone, Copy)]
 pub struct BankTally {
     pub code: u8,
     pub value: u64,
@@ -58,7 +58,7 @@ pub struct BankTally {
 
 // The answer of a call that tells of a challenger: `has` is false where there is none.
 #[repr(C)]
-#[derive(Drop)]
+#[derive(Clone, Copy)]
 pub struct BankChallenger {
     pub code: u8,
     pub has: bool,
@@ -67,7 +67,7 @@ pub struct BankChallenger {
 
 // The answer of a call that tells of a switch record.
 #[repr(C)]
-#[derive(Drop)]
+#[derive(Clone, Copy)]
 pub struct BankLogged {
     pub code: u8,
     pub has: bool,

@@ -20,7 +20,7 @@ use tracker::SpeedTracker;
 
 // The answer of a switch call but for the primary: whether the two were exchanged, the bank, and the primary's serial.
 #[repr(C)]
-#[derive(Drop)]
+#[derive(Clone, Copy)]
 pub struct BankLent {
     pub code: u8,
     pub yes: bool,

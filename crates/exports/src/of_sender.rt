@@ -9,7 +9,7 @@ use sender::{
 };
 
 // A class by its number, or that no class has it.
-#[derive(Drop)]
+#[derive(Clone, Copy)]
 pub enum Named {
     Is(TimingClass),
     Unknown,
@@ -17,7 +17,7 @@ pub enum Named {
 
 // The answer of `observe`: the code is 0, the number of the refusal, or 255 where no class has the number given.
 #[repr(C)]
-#[derive(Drop)]
+#[derive(Clone, Copy)]
 pub struct SenderObserved {
     pub code: u8,
     pub timing: SenderTiming,
@@ -25,7 +25,7 @@ pub struct SenderObserved {
 
 // The answer of a call that tells a number: `has` is false where there is none.
 #[repr(C)]
-#[derive(Drop)]
+#[derive(Clone, Copy)]
 pub struct SenderNumber {
     pub code: u8,
     pub has: bool,
@@ -34,7 +34,7 @@ pub struct SenderNumber {
 
 // The answer of a call that tells yes or no.
 #[repr(C)]
-#[derive(Drop)]
+#[derive(Clone, Copy)]
 pub struct SenderFlag {
     pub code: u8,
     pub yes: bool,
@@ -42,7 +42,7 @@ pub struct SenderFlag {
 
 // The answer of `estimates`: a class with n = 0 has no observations.
 #[repr(C)]
-#[derive(Drop)]
+#[derive(Clone, Copy)]
 pub struct SenderReport {
     pub code: u8,
     pub dit_ms: f32,

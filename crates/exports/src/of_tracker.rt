@@ -14,7 +14,7 @@ use tracker::{Answered, Count, Flag, Flagged, Reading, SpeedTracker, Told};
 
 // The answer of a call that changes the tracker: the code is 0 or the number of the refusal.
 #[repr(C)]
-#[derive(Drop)]
+#[derive(Clone, Copy)]
 pub struct TrackerTold {
     pub code: u8,
     pub tracker: SpeedTracker,
@@ -22,7 +22,7 @@ pub struct TrackerTold {
 
 // The same of a call that tells yes or no.
 #[repr(C)]
-#[derive(Drop)]
+#[derive(Clone, Copy)]
 pub struct TrackerFlagged {
     pub code: u8,
     pub yes: bool,
@@ -31,7 +31,7 @@ pub struct TrackerFlagged {
 
 // The answer of a call that tells a number: `has` is false where there is none.
 #[repr(C)]
-#[derive(Drop)]
+#[derive(Clone, Copy)]
 pub struct TrackerNumber {
     pub code: u8,
     pub has: bool,
@@ -40,7 +40,7 @@ pub struct TrackerNumber {
 
 // The answer of a call that only tells yes or no.
 #[repr(C)]
-#[derive(Drop)]
+#[derive(Clone, Copy)]
 pub struct TrackerFlag {
     pub code: u8,
     pub yes: bool,
@@ -48,7 +48,7 @@ pub struct TrackerFlag {
 
 // The answer of a call that tells a count.
 #[repr(C)]
-#[derive(Drop)]
+#[derive(Clone, Copy)]
 pub struct TrackerCount {
     pub code: u8,
     pub value: u32,

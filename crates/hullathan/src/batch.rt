@@ -17,7 +17,7 @@ use station::inner::pace::{Way, beat, idle, space, way_of};
 use station::inner::refusals::is_chosen;
 
 // A station after an event, and the answer.
-#[derive(Drop)]
+#[derive(Clone, Copy)]
 pub(crate) struct Step {
     pub station: Station,
     pub answer: PlainAnswer,

@@ -7,7 +7,7 @@ ghost use Rattle.hullathan.specs.Parts.{of_asked};
 use station_model::{Code, Event};
 
 // An event by its kind, or that no event has it.
-#[derive(Drop)]
+#[derive(Clone, Copy)]
 pub enum Asked {
     Is(Event),
     Unknown,

@@ -19,7 +19,7 @@ pub mod version;
 
 // An event by its kind: 0 mark, 1 gap, 2 finish, 3 seed, 4 hint, 5 clear, 6 switch; whether it is live (0: no), of a mark only; and its number.
 #[repr(C)]
-#[derive(Drop)]
+#[derive(Clone, Copy)]
 pub struct PlainEvent {
     pub kind: u8,
     pub live: u8,
@@ -30,7 +30,7 @@ pub struct PlainEvent {
 // The answer of a call: its code (0 to 3, or 128 and the refusal's number), the dit and the dah, the primary's serial and how many challengers
 // there are after it, and those that left in it.
 #[repr(C)]
-#[derive(Drop)]
+#[derive(Clone, Copy)]
 pub struct PlainAnswer {
     pub code: u8,
     pub pad_code: [u8; 3],
@@ -45,7 +45,7 @@ pub struct PlainAnswer {
 
 // A batch: the first `len` events, and room for their answers.
 #[repr(C)]
-#[derive(Drop)]
+#[derive(Clone, Copy)]
 pub struct PlainBatch {
     pub len: usize,
     pub events: [PlainEvent; 64],
@@ -54,7 +54,7 @@ pub struct PlainBatch {
 
 // What a host shows of a challenger.
 #[repr(C)]
-#[derive(Drop)]
+#[derive(Clone, Copy)]
 pub struct PlainRival {
     pub serial: u64,
     pub dit_ms: f32,
@@ -66,7 +66,7 @@ pub struct PlainRival {
 // What a display and a log need of a station. `marks` and `gaps` are those that the bank has counted, `accepted` the calls; `log` has the
 // switches, the oldest first.
 #[repr(C)]
-#[derive(Drop)]
+#[derive(Clone, Copy)]
 pub struct PlainReading {
     pub code: u8,
     pub ready: u8,
@@ -97,21 +97,21 @@ pub struct PlainReading {
 }
 
 // A start: its code, and the station.
-#[derive(Drop)]
+#[derive(Clone, Copy)]
 pub struct Started {
     pub code: u8,
     pub station: PlainStation,
 }
 
 // A call: the station after it, and the answer.
-#[derive(Drop)]
+#[derive(Clone, Copy)]
 pub struct Called {
     pub station: PlainStation,
     pub answer: PlainAnswer,
 }
 
 // A batch that was run: its code, the station after it, and the batch with the answers.
-#[derive(Drop)]
+#[derive(Clone, Copy)]
 pub struct Ran {
     pub code: u8,
     pub station: PlainStation,

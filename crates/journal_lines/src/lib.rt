@@ -6,7 +6,7 @@ pub mod inner;
 
 // What is carried over from one piece of the input to the next: whether there was a good `W`, its station, the bytes of a line that is
 // not ended yet (80 of them at most), and how many lines may still be read.
-#[derive(Drop)]
+#[derive(Clone, Copy)]
 pub struct Journal {
     pub begun: bool,
     pub station: Station,
@@ -16,7 +16,7 @@ pub struct Journal {
 }
 
 // A line's answer: whether there is a station after it, the station, and what the output line shows.
-#[derive(Drop)]
+#[derive(Clone, Copy)]
 pub struct Turned {
     pub begun: bool,
     pub station: Station,
@@ -24,7 +24,7 @@ pub struct Turned {
 }
 
 // The bytes up to a newline: those held before and these, how many were taken, and whether the newline was there.
-#[derive(Drop)]
+#[derive(Clone, Copy)]
 pub struct Gathered {
     pub held: [u8; 80],
     pub held_len: usize,
@@ -33,7 +33,7 @@ pub struct Gathered {
 }
 
 // A piece of the input: the journal after it, how many of its bytes were taken, how many were written.
-#[derive(Drop)]
+#[derive(Clone, Copy)]
 pub struct Fed {
     pub journal: Journal,
     pub used: usize,

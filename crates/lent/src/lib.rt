@@ -10,7 +10,7 @@ use bank::TimingBank;
 use tracker::{Flag, SpeedTracker};
 
 // The answer of a switch call but for the primary: whether the two were exchanged, the bank, and the primary's serial.
-#[derive(Drop)]
+#[derive(Clone, Copy)]
 pub struct LentSwitched {
     pub flag: Flag,
     pub bank: TimingBank,
@@ -18,7 +18,7 @@ pub struct LentSwitched {
 }
 
 // Such an answer, and the primary beside it.
-#[derive(Drop)]
+#[derive(Clone, Copy)]
 pub(crate) struct Exchanged {
     pub answer: LentSwitched,
     pub primary: SpeedTracker,

@@ -11,7 +11,7 @@ pub mod fields;
 pub mod values;
 
 // What a line says: a watch begins, a call of the station, or nothing, since the line breaks its form.
-#[derive(Drop)]
+#[derive(Clone, Copy)]
 pub enum Entry {
     Watch { width: u32, switching: bool },
     Call(Event),

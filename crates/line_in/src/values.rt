@@ -3,14 +3,14 @@ ghost use Rattle.std.specs.Prelude.{◌≡◌};
 ghost use Rattle.line_in.specs.Form.{number, flag};
 
 // A whole number, or none.
-#[derive(Drop)]
+#[derive(Clone, Copy)]
 pub enum Number {
     Whole(u32),
     NoNumber,
 }
 
 // A digit, 0 or 1, or none.
-#[derive(Drop)]
+#[derive(Clone, Copy)]
 pub enum Flag {
     Off,
     On,

@@ -8,7 +8,7 @@ use station_model::Code;
 pub mod inner;
 
 // What an output line shows; the centroids by their f32's bits.
-#[derive(Drop)]
+#[derive(Clone, Copy)]
 pub struct Shown {
     pub letter: u8,
     pub code: Code,

@@ -1,4 +1,6 @@
 // What Rust has for the order of floats: clamp, max, abs, is_finite and total_cmp, on every value.
+#![tactic(auto)]
+
 ghost use Rattle.std.specs.Prelude.{◌≡◌};
 ghost use Rattle.std.specs.Float.Ieee.Scale.{finite};
 ghost use Rattle.order.specs.Order.{clamp, larger, abs, negative, total_less};

@@ -1,9 +1,11 @@
 // The pair of centroids of document 01, "ClusterPair and SpeedTracker".
+#![tactic(auto)]
+
 pub mod inner;
 
 // Two centroids, and the start marks while there are none.
 #[repr(C)]
-#[derive(Drop)]
+#[derive(Clone, Copy)]
 pub struct ClusterPair {
     pub lo: f32,
     pub hi: f32,

@@ -9,7 +9,7 @@ pub mod to;
 
 // One challenger: where it came from is a number, 0 the bootstrap, 1 a streak, 2 a former primary, and the marks of protection left.
 #[repr(C)]
-#[derive(Drop)]
+#[derive(Clone, Copy)]
 pub struct PlainHypothesis {
     pub tracker: PlainTracker,
     pub score: f32,
@@ -29,7 +29,7 @@ pub struct PlainHypothesis {
 
 // One switch that the bank made, or would have made: the fields of `SwitchRecord`.
 #[repr(C)]
-#[derive(Drop)]
+#[derive(Clone, Copy)]
 pub struct PlainRecord {
     pub mark_index: u64,
     pub from_dit_ms: f32,
@@ -40,7 +40,7 @@ pub struct PlainRecord {
 
 // A bank: the fields of `TimingBank`.
 #[repr(C)]
-#[derive(Drop)]
+#[derive(Clone, Copy)]
 pub struct PlainBank {
     pub width: usize,
     pub switching: u8,
@@ -71,7 +71,7 @@ pub struct PlainBank {
 
 // A hypothesis that left: why is a number, 0 twin, 1 outscored, 2 aged, 3 replaced, 4 cleared.
 #[repr(C)]
-#[derive(Drop)]
+#[derive(Clone, Copy)]
 pub struct PlainDeparture {
     pub serial: u64,
     pub cause: u8,
@@ -79,7 +79,7 @@ pub struct PlainDeparture {
 }
 
 // The bank of a plain form, where it is one.
-#[derive(Drop)]
+#[derive(Clone, Copy)]
 pub struct Unplain {
     pub is: bool,
     pub bank: TimingBank,

@@ -13,14 +13,14 @@ use sender::inner::{dash_dot_ratio, is_pause, sender_word_dits};
 use sender::{ClassStats, Dits, Length, Millis, Ratio, SenderTiming, TimingClass, Told};
 
 // A class by its number, or that no class has it.
-#[derive(Drop)]
+#[derive(Clone, Copy)]
 pub enum Named {
     Is(TimingClass),
     Unknown,
 }
 
 // What was observed: its code, and the statistics.
-#[derive(Drop)]
+#[derive(Clone, Copy)]
 pub struct SenderObserved {
     pub code: u8,
     pub timing: SenderTiming,
@@ -29,7 +29,7 @@ pub struct SenderObserved {
 // What a host shows of a sender: the dit as it was handed in, the ratio of dash to dot, the boundary between characters and words in
 // dits, and the five classes.
 #[repr(C)]
-#[derive(Drop)]
+#[derive(Clone, Copy)]
 pub struct SenderReading {
     pub code: u8,
     pub has_ratio: u8,

@@ -8,7 +8,7 @@ pub mod to;
 
 // A station: the fields of `Station`, its counts by cause one after the other.
 #[repr(C)]
-#[derive(Drop)]
+#[derive(Clone, Copy)]
 pub struct PlainStation {
     pub primary: PlainTracker,
     pub serial: u64,

@@ -15,7 +15,7 @@ use plain_tracker::to::plain_tracker;
 use tracker::Flag;
 
 // What a host finds after a switch call: the code, the bank, the primary that it lent, and the primary's serial.
-#[derive(Drop)]
+#[derive(Clone, Copy)]
 pub struct BankExchanged {
     pub code: u8,
     pub bank: PlainBank,

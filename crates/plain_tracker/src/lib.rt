@@ -1,12 +1,14 @@
 // A tracker with numbers in place of flags, as a host in C or Rust holds it, and the way there and back. A flag is 0 or 1.
 // What lies beyond a count, or is marked absent, is no part of the state: the way there leaves it empty.
+#![tactic(auto)]
+
 pub mod from;
 pub mod is;
 pub mod to;
 
 // Two centroids, and the start marks while there are none: the fields of `ClusterPair`.
 #[repr(C)]
-#[derive(Drop)]
+#[derive(Clone, Copy)]
 pub struct PlainPair {
     pub lo: f32,
     pub hi: f32,
@@ -21,7 +23,7 @@ pub struct PlainPair {
 
 // One mark of the ring: the fields of `RingEntry`.
 #[repr(C)]
-#[derive(Drop)]
+#[derive(Clone, Copy)]
 pub struct PlainEntry {
     pub dur_ms: f32,
     pub assigned_dit: u8,
@@ -32,7 +34,7 @@ pub struct PlainEntry {
 
 // A tracker: the fields of `SpeedTracker`.
 #[repr(C)]
-#[derive(Drop)]
+#[derive(Clone, Copy)]
 pub struct PlainTracker {
     pub pair: PlainPair,
     pub ring: [PlainEntry; 12],

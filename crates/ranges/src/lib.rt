@@ -1,4 +1,6 @@
 // The tests of ranges that the layers above make at the door.
+#![tactic(auto)]
+
 ghost use Rattle.std.specs.Prelude.{◌≡◌};
 ghost use Rattle.std.specs.Float.Ieee.Positive.{positive};
 ghost use Rattle.ranges.specs.Interval.{within};

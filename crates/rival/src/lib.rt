@@ -5,7 +5,7 @@ use tracker::SpeedTracker;
 pub mod inner;
 
 // One challenger: its tracker, its scores, its bookkeeping, the logarithms of its centroids, and its serial.
-#[derive(Drop)]
+#[derive(Clone, Copy)]
 pub struct TimingHypothesis {
     pub tracker: SpeedTracker,
     pub score: f32,

@@ -1,4 +1,6 @@
 // A sender's statistics of document 01, "SenderTiming": five classes of lengths in dits, each with its average, its variance and a count.
+#![tactic(auto)]
+
 ghost use Rattle.std.specs.Prelude.{◌≡◌, Float};
 ghost use Rattle.ranges.specs.Interval.{In};
 ghost use Rattle.sender.specs.Constants.{word_min, word_max};
@@ -12,15 +14,15 @@ pub mod door;
 pub mod inner;
 
 // A length in milliseconds.
-#[derive(Drop)]
+#[derive(Clone, Copy)]
 pub struct Millis(pub f32);
 
 // A length in dits. Only `observe` makes one of milliseconds.
 #[repr(C)]
-#[derive(Drop)]
+#[derive(Clone, Copy)]
 pub struct Dits(pub f32);
 
-#[derive(Drop)]
+#[derive(Clone, Copy)]
 pub enum TimingClass {
     Dot,
     Dash,
@@ -46,7 +48,7 @@ impl TimingClass {
 
 // What is known of one class: average and variance, which mean nothing while n is 0.
 #[repr(C)]
-#[derive(Drop)]
+#[derive(Clone, Copy)]
 pub struct ClassStats {
     pub mean: Dits,
     pub var: f32,
@@ -55,7 +57,7 @@ pub struct ClassStats {
 
 // The five classes.
 #[repr(C)]
-#[derive(Drop)]
+#[derive(Clone, Copy)]
 pub struct SenderTiming {
     pub dot: ClassStats,
     pub dash: ClassStats,
@@ -65,21 +67,21 @@ pub struct SenderTiming {
 }
 
 // One class in a report.
-#[derive(Drop)]
+#[derive(Clone, Copy)]
 pub struct ClassEstimate {
     pub mean_dits: Dits,
     pub var_dits2: f32,
     pub n: u32,
 }
 
-#[derive(Drop)]
+#[derive(Clone, Copy)]
 pub enum Estimate {
     Is(ClassEstimate),
     Absent,
 }
 
 // The five classes as a report, in dits of `dit_ms`.
-#[derive(Drop)]
+#[derive(Clone, Copy)]
 pub struct TimingEstimates {
     pub dit_ms: Millis,
     pub dot: Estimate,
@@ -90,14 +92,14 @@ pub struct TimingEstimates {
 }
 
 // The answer of `observe`.
-#[derive(Drop)]
+#[derive(Clone, Copy)]
 pub enum Told {
     Done,
     Refused(u8),
 }
 
 // The answer of a call that tells a length, or that there is none.
-#[derive(Drop)]
+#[derive(Clone, Copy)]
 pub enum Length {
     Is(Dits),
     Absent,
@@ -105,7 +107,7 @@ pub enum Length {
 }
 
 // The answer of a call that tells a ratio, or that there is none.
-#[derive(Drop)]
+#[derive(Clone, Copy)]
 pub enum Ratio {
     Is(f32),
     Absent,
@@ -113,21 +115,21 @@ pub enum Ratio {
 }
 
 // The answer of a call that tells yes or no.
-#[derive(Drop)]
+#[derive(Clone, Copy)]
 pub enum Yes {
     Is(bool),
     Refused(u8),
 }
 
 // The answer of `estimates`.
-#[derive(Drop)]
+#[derive(Clone, Copy)]
 pub enum Report {
     Is(TimingEstimates),
     Refused(u8),
 }
 
 // The answer of `observe`, and the statistics that are handed back.
-#[derive(Drop)]
+#[derive(Clone, Copy)]
 pub struct Observed {
     pub told: Told,
     pub timing: SenderTiming,

@@ -8,7 +8,7 @@ pub mod calls;
 pub mod inner;
 
 // A station: the primary and its serial, its rivals, how many left by cause, how many calls were accepted.
-#[derive(Drop)]
+#[derive(Clone, Copy)]
 pub struct Station {
     pub primary: SpeedTracker,
     pub serial: u64,
@@ -18,7 +18,7 @@ pub struct Station {
 }
 
 // The answer of a call: its code, and those that left in it.
-#[derive(Drop)]
+#[derive(Clone, Copy)]
 pub struct Answer {
     pub code: Code,
     pub left: [Departure; MOST_LEFT],
@@ -26,21 +26,21 @@ pub struct Answer {
 }
 
 // The station after a call, and the call's answer.
-#[derive(Drop)]
+#[derive(Clone, Copy)]
 pub struct Outcome {
     pub station: Station,
     pub answer: Answer,
 }
 
 // A start: whether it was made as wanted, and the station.
-#[derive(Drop)]
+#[derive(Clone, Copy)]
 pub struct Started {
     pub told: Told,
     pub station: Station,
 }
 
 // What a host shows of a challenger; where there is none, the numbers are 0.
-#[derive(Drop)]
+#[derive(Clone, Copy)]
 pub struct Rival {
     pub place: Place,
     pub serial: u64,

@@ -1,7 +1,7 @@
 // What a call of a station is given and what it answers: the events, the codes, the counts by cause.
 
 // "One call is one event: mark, gap, seed and hint carry their number with them."
-#[derive(Drop)]
+#[derive(Clone, Copy)]
 pub enum Event {
     Mark { dur_ms: f32, live: bool },
     Gap(f32),
@@ -13,7 +13,7 @@ pub enum Event {
 }
 
 // What an accepted call came to, or the number of the refusal.
-#[derive(Drop)]
+#[derive(Clone, Copy)]
 pub enum Code {
     Done,
     BecameReady,
@@ -23,7 +23,7 @@ pub enum Code {
 }
 
 // How many hypotheses left, by cause.
-#[derive(Drop)]
+#[derive(Clone, Copy)]
 pub struct Counts {
     pub twins: u64,
     pub outscored: u64,

@@ -47,13 +47,13 @@ unfolding settled unflagged
 unflagged_view r t e = ap view e
 
 pub init_long : (t : SpeedTracker) (v : Valss (shape the_type).fields) → shadow (owns (shape the_type).fields (the_type.to t) v) → length t.pair.init ≡ 12
-init_long t v g = length_unmapped Float t.pair.init 12 g.0.1.1.1.1.0.1.0.1
+init_long t v g = g.0.1.1.1.1.0.1.0.1
 
 pub ring_long : (t : SpeedTracker) (v : Valss (shape the_type).fields) → shadow (owns (shape the_type).fields (the_type.to t) v) → length t.ring ≡ 12
-ring_long t v g = unmapped _ t.ring 12 g.1.0.1.0.1
+ring_long t v g = g.1.0.1.0.1
 
 pub recent_long : (t : SpeedTracker) (v : Valss (shape the_type).fields) → shadow (owns (shape the_type).fields (the_type.to t) v) → length t.recent ≡ 5
-recent_long t v g = length_unmapped Float t.recent 5 g.1.1.1.1.1.0.1.0.1
+recent_long t v g = g.1.1.1.1.1.0.1.0.1
 
 -- ---- what a ready one says, for the layers above
 module _ (t : SpeedTracker) (s : T (sound standard t)) (e : t.pair.ready ≡ true) where

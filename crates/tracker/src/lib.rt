@@ -1,4 +1,6 @@
 // The speed tracker of document 01, "ClusterPair and SpeedTracker".
+#![tactic(auto)]
+
 pub mod calls;
 pub mod inner;
 
@@ -7,7 +9,7 @@ use ring::RingEntry;
 
 // A tracker: an optional number is a flag and a number.
 #[repr(C)]
-#[derive(Drop)]
+#[derive(Clone, Copy)]
 pub struct SpeedTracker {
     pub pair: ClusterPair,
     pub ring: [RingEntry; 12],
@@ -26,21 +28,21 @@ pub struct SpeedTracker {
 }
 
 // The answer of a call that has nothing to tell but that it was done.
-#[derive(Drop)]
+#[derive(Clone, Copy)]
 pub enum Told {
     Done,
     Refused(u8),
 }
 
 // The answer of a call that tells yes or no.
-#[derive(Drop)]
+#[derive(Clone, Copy)]
 pub enum Flag {
     Is(bool),
     Refused(u8),
 }
 
 // The answer of a call that tells a number, or that there is none.
-#[derive(Drop)]
+#[derive(Clone, Copy)]
 pub enum Reading {
     Is(f32),
     Absent,
@@ -48,20 +50,20 @@ pub enum Reading {
 }
 
 // The answer of a call that tells a count.
-#[derive(Drop)]
+#[derive(Clone, Copy)]
 pub enum Count {
     Is(u32),
     Refused(u8),
 }
 
 // An answer, and the tracker that is handed back.
-#[derive(Drop)]
+#[derive(Clone, Copy)]
 pub struct Answered {
     pub told: Told,
     pub tracker: SpeedTracker,
 }
 
-#[derive(Drop)]
+#[derive(Clone, Copy)]
 pub struct Flagged {
     pub flag: Flag,
     pub tracker: SpeedTracker,

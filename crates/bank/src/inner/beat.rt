@@ -26,7 +26,7 @@ use rival::inner::each::{is_kept, lead_one, mark_one, why};
 use tracker::SpeedTracker;
 
 // A streak: its marks and the gaps between them.
-#[derive(Drop)]
+#[derive(Clone, Copy)]
 pub struct Run {
     pub marks: [f32; 4],
     pub n: usize,
@@ -35,7 +35,7 @@ pub struct Run {
 }
 
 // What a mark makes of the primary's score and of the streak, and the mark's logarithm.
-#[derive(Drop)]
+#[derive(Clone, Copy)]
 pub struct Strike {
     pub log: f32,
     pub score: f32,

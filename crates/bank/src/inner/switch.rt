@@ -19,7 +19,7 @@ use tracker::SpeedTracker;
 use tracker::inner::gaps::settle;
 
 // A bank and a primary after a switch call, the primary's serial, and whether the two were exchanged.
-#[derive(Drop)]
+#[derive(Clone, Copy)]
 pub struct Taken {
     pub bank: TimingBank,
     pub primary: SpeedTracker,

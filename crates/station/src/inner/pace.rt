@@ -19,7 +19,7 @@ use tracker::inner::mark::on_mark;
 use tracker::inner::speed::dit_estimate;
 
 // The short ways; a mark and a gap with their length.
-#[derive(Drop)]
+#[derive(Clone, Copy)]
 pub enum Way {
     // A switch with nothing pending.
     Idle,

@@ -72,7 +72,7 @@ pub fn from_marks(marks: &[f32], gaps: &[f32]) -> SpeedTracker
 }
 
 // A tracker where there is one.
-#[derive(Drop)]
+#[derive(Clone, Copy)]
 pub struct Alternative {
     pub is: bool,
     pub tracker: SpeedTracker,

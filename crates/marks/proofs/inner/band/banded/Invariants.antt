@@ -1,0 +1,14 @@
+-- `marks::inner::band::banded` meets its contract. Assumes nothing.
+use mathlib.Core.Path.{refl, sym, ◌∙◌}
+use Prim.Native.Nat.{◌-◌}
+use native.Mathlib.Omega.{arith}
+use lib.ListN.{length}
+use borrow.Author.Rules.{rules}
+use Rattle.marks.proofs.Banding.{Banding, band_begins, band_takes, band_leaves, band_ends}
+use Rattle.marks.proofs.inner.band.banded.Given as goal
+
+abbrev pub invariant-loop-i : goal.invariant-loop-i
+invariant-loop-i l = Banding l.lo l.gaps l.b l.i
+
+abbrev pub decreases-loop-i : goal.decreases-loop-i
+decreases-loop-i l = length l.gaps - l.i

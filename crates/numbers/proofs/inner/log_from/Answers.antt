@@ -1,0 +1,10 @@
+-- `numbers::inner::log_from` meets its contract. Assumes nothing.
+use Rattle.numbers.proofs.LnLaws.{scaled_over, scaled_under}
+use Rattle.std.proofs.Common.{rules}
+use Rattle.numbers.proofs.inner.log_from.Goals as goal
+
+pub returns-then-hi-ge2499805184 : goal.returns-then-hi-ge2499805184
+returns-then-hi-ge2499805184 c = scaled_over _ c.ratio32.result c.if-hi-ge2499805184.true c.ratio32.ensures
+
+pub returns : goal.returns
+returns c = scaled_under _ c.ratio32-2.result c.if-hi-ge2499805184.false c.ratio32-2.ensures

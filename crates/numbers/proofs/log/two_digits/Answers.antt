@@ -1,0 +1,32 @@
+-- `numbers::log::two_digits` meets its contract: `proofs/LogLaws.antt` has the invariant. Assumes nothing.
+use Rattle.std.proofs.Common.{◌-◌, arith}
+use Rattle.numbers.proofs.LogLaws.{Good, begin, fits, again, ended}
+use Rattle.numbers.proofs.log.two_digits.Goals as goal
+
+pub loop-n-init : goal.loop-n-init
+loop-n-init c = (begin c.args.y c.requires.bound.0 c.requires.bound.1, begin c.args.z c.requires.bound_2.0 c.requires.bound_2.1)
+
+pub one_digit-p-requires : goal.one_digit-p-requires
+one_digit-p-requires c = let g = c.loop-n.invariant.0 in (g.low, g.high, fits g)
+
+pub one_digit-q-requires : goal.one_digit-q-requires
+one_digit-q-requires c = let g = c.loop-n.invariant.1 in (g.low, g.high, fits g)
+
+pub overflow_add-n : goal.overflow_add-n
+overflow_add-n c = omega arith
+
+pub loop-n-smaller : goal.loop-n-smaller
+loop-n-smaller c = omega arith
+
+pub loop-n-preserved : goal.loop-n-preserved
+loop-n-preserved c =
+    let p = c.one_digit-p.ensures in
+    let q = c.one_digit-q.ensures in
+    let l = c.before.before in (
+      again l.loop-n.invariant.0 (omega arith) p.0 p.1,
+      again
+          l.loop-n.invariant.1 (omega arith) q.0 q.1,
+    )
+
+pub returns : goal.returns
+returns c = let i = c.loop-n.invariant in (ended i.0 (omega arith), ended i.1 (omega arith))

@@ -1,0 +1,6 @@
+-- `pair::inner::pair::anchors_dah` meets its contract. Assumes nothing.
+use borrow.Author.Rules.{rules}
+use Rattle.pair.proofs.inner.pair.anchors_dah.Goals as goal
+
+pub returns : goal.returns
+returns c = rw (c.if-p.false, c.if-p-2.false)

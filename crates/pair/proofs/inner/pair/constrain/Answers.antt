@@ -1,0 +1,9 @@
+-- `pair::inner::pair::constrain` meets its contract. Assumes nothing.
+use mathlib.Core.Path.{refl}
+use borrow.Author.Rules.{rules}
+use Rattle.pair.specs.Lock.{constrained}
+use Rattle.pair.proofs.inner.pair.constrain.Goals as goal
+
+pub returns : goal.returns
+unfolding constrained
+returns c = (rw (c.mended-hi.ensures, c.clamp32-lo.ensures), refl)

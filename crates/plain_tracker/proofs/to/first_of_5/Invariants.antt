@@ -1,0 +1,15 @@
+-- `plain_tracker::to::first_of_5` meets its contract. Assumes nothing.
+use mathlib.Core.Path.{refl}
+use Prim.Native.Nat.{◌-◌}
+use native.Mathlib.Omega.{arith}
+use lib.Ieee.{Float, of_bits}
+use borrow.Author.Rules.{rules}
+use Rattle.ranges.specs.Limits.{nought}
+use Rattle.plain_tracker.proofs.Carrying.{Laden, filled, laden_begins, laden_turns, laden_ends}
+use Rattle.plain_tracker.proofs.to.first_of_5.Given as goal
+
+abbrev pub invariant-loop-i : goal.invariant-loop-i
+invariant-loop-i l = Laden (λ (x : Float). x) nought (l.l) 5 (l.count) l.n l.out l.i
+
+abbrev pub decreases-loop-i : goal.decreases-loop-i
+decreases-loop-i l = l.n - l.i

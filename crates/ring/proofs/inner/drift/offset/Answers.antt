@@ -1,0 +1,6 @@
+-- `ring::inner::drift::offset` meets its contract. Assumes nothing.
+use borrow.Author.Rules.{rules}
+use Rattle.ring.proofs.inner.drift.offset.Goals as goal
+
+pub returns : goal.returns
+returns c = rw c.abs64.ensures

@@ -1,0 +1,6 @@
+-- `tracker::inner::speed::averaged` meets its contract. Assumes nothing.
+use Rattle.std.proofs.Common.{rules}
+use Rattle.tracker.proofs.inner.speed.averaged.Goals as goal
+
+pub returns-then-has_wpm : goal.returns-then-has_wpm
+returns-then-has_wpm c = rw c.if-has_wpm.true

@@ -1,0 +1,6 @@
+-- `tracker::inner::speed::speed` meets its contract. Assumes nothing.
+use Rattle.std.proofs.Common.{rules}
+use Rattle.tracker.proofs.inner.speed.speed.Goals as goal
+
+pub returns : goal.returns
+returns c = rw c.estimate.ensures

@@ -1,0 +1,6 @@
+-- `tracker::inner::speed::timed` meets its contract. Assumes nothing.
+use Rattle.std.proofs.Common.{rules}
+use Rattle.tracker.proofs.inner.speed.timed.Goals as goal
+
+pub returns : goal.returns
+returns c = (rw c.speed-w.ensures, record { init = c.requires.init; ring = c.requires.ring; recent = c.requires.recent })
