@@ -1,4 +1,6 @@
 // The bank of rivals of document 01, "TimingBank".
+#![tactic(auto)]
+
 use bank_model::{Departure, MOST_LEFT, SwitchRecord};
 use rival::TimingHypothesis;
 use tracker::{Flag, SpeedTracker, Told};

@@ -1,5 +1,7 @@
 // A bank with numbers in place of enums and flags, as a host in C or Rust holds it, and the way there and back. A flag is 0 or 1.
 // What lies beyond a count, or is marked absent, is no part of the state: the way there leaves it empty.
+#![tactic(auto)]
+
 use bank::TimingBank;
 use plain_tracker::PlainTracker;
 

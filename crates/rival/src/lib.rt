@@ -1,4 +1,6 @@
 // One rival reading in the bank of document 01, "TimingBank".
+#![tactic(auto)]
+
 use bank_model::Origin;
 use tracker::SpeedTracker;
 

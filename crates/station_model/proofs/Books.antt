@@ -73,6 +73,7 @@ among_set k (x ∷ l) (suc i) h v e = omega (arith, among_set k l i h v e)
 
 pub in_among : (h : Hyp) (l : List Hyp) → Memᴰ h l → 1 ≤ among h.serial l
 unfolding among
+in_among h [] m = elim m [ ]
 in_among h (x ∷ l) (Memᴰ.head e) = omega (arith, ind_eq h.serial x.serial (ap (λ (y : Hyp). y.serial) e))
 in_among h (x ∷ l) (Memᴰ.tail m) = omega (arith, in_among h l m)
 

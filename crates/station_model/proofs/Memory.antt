@@ -112,6 +112,7 @@ module _ (k : Settings) where
 
   one_ahead : (h : Hyp) (p : Float) (l : List Hyp) → Memᴰ h l → among h.serial l ≤ 1 → ahead_among k h.serial p l ≡ ahead k h.score p
   unfolding among ahead_among
+  one_ahead h p [] m u = elim m [ ]
   one_ahead h p (x ∷ l) (Memᴰ.head e) u =
       let t : eqb h.serial x.serial ≡ true = eq-eqb h.serial x.serial (ap (λ (y : Hyp). y.serial) e) in
       this_one (eqb h.serial x.serial) (ahead k x.score p) (ahead_among k h.serial p l) t (none_ahead h.serial p l (omega (arith, ap ind t)))

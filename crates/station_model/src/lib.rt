@@ -1,4 +1,5 @@
 // What a call of a station is given and what it answers: the events, the codes, the counts by cause.
+#![tactic(auto)]
 
 // "One call is one event: mark, gap, seed and hint carry their number with them."
 #[derive(Clone, Copy)]

@@ -1,0 +1,10 @@
+-- `bank::inner::refusals::first_refusal` meets its contract. Assumes nothing.
+use Rattle.std.proofs.Common.{◌-◌, length, rules}
+use Rattle.bank.proofs.Refusing.{Passing, pass_begins, pass_fails, pass_turns, pass_ends}
+use Rattle.bank.proofs.inner.refusals.first_refusal.Given as goal
+
+abbrev pub invariant-loop-i : goal.invariant-loop-i
+invariant-loop-i l = Passing l.marks l.i
+
+abbrev pub decreases-loop-i : goal.decreases-loop-i
+decreases-loop-i l = length l.marks - l.i

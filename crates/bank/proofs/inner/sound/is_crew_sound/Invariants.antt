@@ -1,0 +1,11 @@
+-- `bank::inner::sound::is_crew_sound` meets its contract. Assumes nothing.
+use Rattle.std.proofs.Common.{◌≡◌, ◌-◌, length, arith, rules}
+use Rattle.marks.proofs.Shifting.{unmapped}
+use Rattle.bank.proofs.Sounding.{Trying, try_begins, try_fails, try_turns, try_ends}
+use Rattle.bank.proofs.inner.sound.is_crew_sound.Given as goal
+
+abbrev pub invariant-loop-i : goal.invariant-loop-i
+invariant-loop-i l = Trying l.b.challengers l.n l.i
+
+abbrev pub decreases-loop-i : goal.decreases-loop-i
+decreases-loop-i l = l.n - l.i

@@ -1,0 +1,6 @@
+-- `plain::from::record_of` meets its contract. Assumes nothing.
+use borrow.Author.Rules.{rules}
+use Rattle.plain.proofs.from.record_of.Goals as goal
+
+pub returns : goal.returns
+returns c = rw c.flag_of.ensures

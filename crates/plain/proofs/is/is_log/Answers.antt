@@ -1,0 +1,41 @@
+-- `plain::is::is_log` meets its contract. Assumes nothing.
+use mathlib.Core.Bool.{not}
+use mathlib.Core.Path.{◌≡◌, ap, ◌∙◌}
+use Prim.Native.Nat.{◌-◌, ◌≤◌}
+use native.Mathlib.Omega.{arith}
+use lib.ListN.{length, take}
+use borrow.Author.Rules.{rules}
+use Rattle.marks.specs.Lists.{all}
+use Rattle.marks.proofs.Testing.{Testing, test_begins, test_turns, test_fails, test_ends, tested, places}
+use Rattle.marks.proofs.Shifting.{unmapped}
+use Rattle.plain.specs.Plain.{is_record, is_log}
+use Rattle.plain_tracker.proofs.Carrying.{take_capped, capped_at}
+use Rattle.plain.proofs.is.is_log.Goals as goal
+
+pub loop-i-init : goal.loop-i-init
+loop-i-init c =
+    let l : length c.args.p.log ≡ 16 = search (unmapped, rules) in
+    let k : c.capped-n.result ≤ 16 = capped_at c.args.p.log_len 16 _ c.capped-n.ensures in
+    ((k, take_capped _ c.args.p.log_len 16 _ l c.capped-n.ensures), (places c.args.p.log c.capped-n.result (omega arith), test_begins is_record _))
+
+pub returns-then-not-is_flag : goal.returns-then-not-is_flag
+unfolding is_log
+returns-then-not-is_flag c =
+    let a = c.args.p in
+    let v = c.loop-i.invariant in
+    let w = v.1.0 in
+    test_fails is_record _ _ _ c.is_flag.result (omega (arith, w)) v.1.1 (tested is_record a.log _ c.loop-i.i _ _ c.loop-i-test.true c.is_flag.ensures) (ap not c.if-not-is_flag.true) ∙ ap (all is_record) v.0.1
+
+pub loop-i-preserved : goal.loop-i-preserved
+loop-i-preserved c =
+    let a = c.args.p in
+    let v = c.loop-i.invariant in
+    let w = v.1.0 in
+    (v.0, (w, test_turns is_record _ _ _ c.is_flag.result (omega (arith, w)) v.1.1 (tested is_record a.log _ c.loop-i.i _ _ c.loop-i-test.true c.is_flag.ensures) (ap not c.if-not-is_flag.false)))
+
+pub returns : goal.returns
+unfolding is_log
+returns c =
+    let v = c.loop-i.invariant in
+    let w = v.1.0 in
+    test_ends is_record _ _ (omega (arith, w)) v.1.1 ∙ ap (all is_record) v.0.1

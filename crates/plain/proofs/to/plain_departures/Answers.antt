@@ -1,0 +1,23 @@
+-- `plain::to::plain_departures` meets its contract. Assumes nothing.
+use Prim.Native.Nat.{◌-◌}
+use native.Mathlib.Omega.{arith}
+use borrow.Author.Rules.{rules}
+use Rattle.marks.proofs.Shifting.{unmapped}
+use Rattle.plain_tracker.proofs.Carrying.{Laden, filled, laden_begins, laden_turns, laden_ends}
+use Rattle.bank.specs.Parts.{most_left}
+use Rattle.plain.specs.Plain.{plain_departure, no_departure}
+use Rattle.plain.proofs.to.plain_departures.Goals as goal
+
+pub loop-i-init : goal.loop-i-init
+unfolding filled
+loop-i-init c =
+    laden_begins plain_departure no_departure _ most_left _ _ _ c.no_departure-z.ensures (search (unmapped, rules))
+    c.capped-n.ensures
+
+pub loop-i-preserved : goal.loop-i-preserved
+loop-i-preserved c =
+    laden_turns plain_departure no_departure _ most_left _ _ _ _ _ _ c.loop-i-test.true
+    c.loop-i.invariant c.plain_departure-q.ensures
+
+pub returns : goal.returns
+returns c = laden_ends plain_departure no_departure _ most_left _ _ _ _ c.loop-i-test.false c.loop-i.invariant

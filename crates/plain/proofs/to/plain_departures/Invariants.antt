@@ -1,0 +1,15 @@
+-- `plain::to::plain_departures` meets its contract. Assumes nothing.
+use Prim.Native.Nat.{◌-◌}
+use native.Mathlib.Omega.{arith}
+use borrow.Author.Rules.{rules}
+use Rattle.marks.proofs.Shifting.{unmapped}
+use Rattle.plain_tracker.proofs.Carrying.{Laden, filled, laden_begins, laden_turns, laden_ends}
+use Rattle.bank.specs.Parts.{most_left}
+use Rattle.plain.specs.Plain.{plain_departure, no_departure}
+use Rattle.plain.proofs.to.plain_departures.Given as goal
+
+abbrev pub invariant-loop-i : goal.invariant-loop-i
+invariant-loop-i l = Laden plain_departure no_departure (l.left) most_left (l.count) l.n l.out l.i
+
+abbrev pub decreases-loop-i : goal.decreases-loop-i
+decreases-loop-i l = l.n - l.i
