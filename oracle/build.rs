@@ -121,7 +121,7 @@ fn library(root: &Path) {
         println!("cargo::rerun-if-changed={}", archive.display());
         if !archive.is_file() {
             stop(&format!(
-                "{} is not there. `rt staticlib {name}`, in the repository's root, makes it",
+                "{} is not there. `tools/archive {name}`, in the repository's root, makes it",
                 archive.display()
             ));
         }

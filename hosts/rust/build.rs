@@ -24,7 +24,7 @@ fn main() {
     println!("cargo::rerun-if-changed={}", archive.display());
     if !archive.is_file() {
         stop(&format!(
-            "{} is not there. `rt staticlib hullathan`, in the repository's root, makes it; \
+            "{} is not there. `tools/archive hullathan`, in the repository's root, makes it; \
              HULLATHAN_LIB names another folder",
             archive.display()
         ));

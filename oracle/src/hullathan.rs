@@ -1,4 +1,4 @@
-//! The proved library, as `rt staticlib exports` and, of the station, `rt staticlib hullathan` write it. Each function takes plain numbers,
+//! The proved library, as `tools/archive exports` and, of the station, `tools/archive hullathan` write it. Each function takes plain numbers,
 //! answers 0 or the number of a refusal, and leaves its result behind the reference; after a refusal what stood there is untouched.
 
 pub mod bank;

@@ -38,8 +38,7 @@ pub struct BankTaken {
 }
 
 // One mark, with no test of the tracker or the mark.
-#[unsafe(no_mangle)]
-pub extern "C" fn hullathan_inner_tracker_on_mark(t: SpeedTracker, dur_ms: f32) -> SpeedTracker
+pub fn hullathan_inner_tracker_on_mark(t: SpeedTracker, dur_ms: f32) -> SpeedTracker
     requires t { T (sound standard t) }
     requires t_2 { T (duration dur_ms) }
     ensures { (view result ≡ on_mark standard (view t) dur_ms) × T (sound standard result) }
@@ -48,16 +47,14 @@ pub extern "C" fn hullathan_inner_tracker_on_mark(t: SpeedTracker, dur_ms: f32) 
 }
 
 // Hands back what it was handed: what the passing of a tracker costs.
-#[unsafe(no_mangle)]
-pub extern "C" fn hullathan_inner_tracker_same(t: SpeedTracker, _dur_ms: f32) -> SpeedTracker
+pub fn hullathan_inner_tracker_same(t: SpeedTracker, _dur_ms: f32) -> SpeedTracker
     ensures { result ≡ t }
 {
     t
 }
 
 // One mark to a bank, with no test of the bank, the primary or the mark.
-#[unsafe(no_mangle)]
-pub extern "C" fn hullathan_inner_bank_on_mark(
+pub fn hullathan_inner_bank_on_mark(
     b: PlainBank,
     p: SpeedTracker,
     dur_ms: f32,
@@ -84,12 +81,7 @@ pub extern "C" fn hullathan_inner_bank_on_mark(
 }
 
 // One gap to a bank, with no test of the bank, the primary or the gap.
-#[unsafe(no_mangle)]
-pub extern "C" fn hullathan_inner_bank_on_gap(
-    b: PlainBank,
-    p: SpeedTracker,
-    dur_ms: f32,
-) -> PlainBank
+pub fn hullathan_inner_bank_on_gap(b: PlainBank, p: SpeedTracker, dur_ms: f32) -> PlainBank
     requires held { Held b × Countable (bank_of b) }
     requires t { T (sound standard p) }
     requires t_2 { T (duration dur_ms) }
@@ -101,12 +93,7 @@ pub extern "C" fn hullathan_inner_bank_on_gap(
 }
 
 // A switch call, with no test of the bank or the primary.
-#[unsafe(no_mangle)]
-pub extern "C" fn hullathan_inner_bank_take_switch(
-    b: PlainBank,
-    p: SpeedTracker,
-    serial: u64,
-) -> BankTaken
+pub fn hullathan_inner_bank_take_switch(b: PlainBank, p: SpeedTracker, serial: u64) -> BankTaken
     requires held { Held b × Chosen (bank_of b) p }
     requires t { T (sound standard p) }
     ensures { (taken_to result ≡ Bank.take_switch (Banked.view (bank_of b)) (view p) serial) × (Held result.bank × Neat result.bank × T (sound standard result.primary)) }
@@ -126,8 +113,7 @@ pub extern "C" fn hullathan_inner_bank_take_switch(
 }
 
 // Hands back the plain form of the bank that it was handed in plain form: what the passing of a bank costs.
-#[unsafe(no_mangle)]
-pub extern "C" fn hullathan_inner_bank_same(b: PlainBank) -> PlainBank
+pub fn hullathan_inner_bank_same(b: PlainBank) -> PlainBank
     ensures { result ≡ plain_bank (bank_of b) }
 {
     let u = bank_of(b);

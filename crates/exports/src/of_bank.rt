@@ -214,8 +214,7 @@ pub(crate) fn unanswered(b: PlainBank) -> BankAnswered
 }
 
 // A fresh bank; refused by 3.
-#[unsafe(no_mangle)]
-pub extern "C" fn hullathan_bank_new(width: usize, switching: bool) -> BankHeard
+pub fn hullathan_bank_new(width: usize, switching: bool) -> BankHeard
     ensures { BankStarted width switching result }
 {
     let a = TimingBank::new(width, switching);
@@ -227,8 +226,7 @@ pub extern "C" fn hullathan_bank_new(width: usize, switching: bool) -> BankHeard
 }
 
 // How many hypotheses live, the primary included.
-#[unsafe(no_mangle)]
-pub extern "C" fn hullathan_bank_hypotheses(b: PlainBank) -> BankTally
+pub fn hullathan_bank_hypotheses(b: PlainBank) -> BankTally
     ensures { result ≡ tallied (unless (plain_then b (bank_then standard (bank_of b) 0)) (count (1 + b.challengers_len))) }
 {
     let u = bank_of(b);
@@ -240,8 +238,7 @@ pub extern "C" fn hullathan_bank_hypotheses(b: PlainBank) -> BankTally
 }
 
 // How many marks were scored.
-#[unsafe(no_mangle)]
-pub extern "C" fn hullathan_bank_marks_seen(b: PlainBank) -> BankTally
+pub fn hullathan_bank_marks_seen(b: PlainBank) -> BankTally
     ensures { result ≡ tallied (unless (plain_then b (bank_then standard (bank_of b) 0)) (count b.marks_seen)) }
 {
     let u = bank_of(b);
@@ -253,8 +250,7 @@ pub extern "C" fn hullathan_bank_marks_seen(b: PlainBank) -> BankTally
 }
 
 // How many gaps were scored.
-#[unsafe(no_mangle)]
-pub extern "C" fn hullathan_bank_gaps_seen(b: PlainBank) -> BankTally
+pub fn hullathan_bank_gaps_seen(b: PlainBank) -> BankTally
     ensures { result ≡ tallied (unless (plain_then b (bank_then standard (bank_of b) 0)) (count b.gaps_seen)) }
 {
     let u = bank_of(b);
@@ -266,8 +262,7 @@ pub extern "C" fn hullathan_bank_gaps_seen(b: PlainBank) -> BankTally
 }
 
 // The i-th challenger, in bank order.
-#[unsafe(no_mangle)]
-pub extern "C" fn hullathan_bank_challenger(b: PlainBank, i: usize) -> BankChallenger
+pub fn hullathan_bank_challenger(b: PlainBank, i: usize) -> BankChallenger
     ensures { result ≡ challenged (showing (plain_then b (bank_then standard (bank_of b) 0)) (get_elem? (take b.challengers_len (bank_of b).challengers) i)) }
 {
     let u = bank_of(b);
@@ -279,8 +274,7 @@ pub extern "C" fn hullathan_bank_challenger(b: PlainBank, i: usize) -> BankChall
 }
 
 // The i-th switch record, oldest first.
-#[unsafe(no_mangle)]
-pub extern "C" fn hullathan_bank_switch_record(b: PlainBank, i: usize) -> BankLogged
+pub fn hullathan_bank_switch_record(b: PlainBank, i: usize) -> BankLogged
     ensures { result ≡ logged (showing (plain_then b (bank_then standard (bank_of b) 0)) (get_elem? (take b.log_len (bank_of b).log) i)) }
 {
     let u = bank_of(b);
@@ -292,8 +286,7 @@ pub extern "C" fn hullathan_bank_switch_record(b: PlainBank, i: usize) -> BankLo
 }
 
 // Every challenger leaves, with all evidence and the choice.
-#[unsafe(no_mangle)]
-pub extern "C" fn hullathan_bank_clear(b: PlainBank) -> BankAnswered
+pub fn hullathan_bank_clear(b: PlainBank) -> BankAnswered
     ensures { BankAnswers (plain_then b (clear_refusal standard (bank_of b))) b (clear (view (bank_of b))) result }
 {
     let u = bank_of(b);
@@ -305,12 +298,7 @@ pub extern "C" fn hullathan_bank_clear(b: PlainBank) -> BankAnswered
 }
 
 // The primary just became ready from marks.
-#[unsafe(no_mangle)]
-pub extern "C" fn hullathan_bank_on_ready(
-    b: PlainBank,
-    primary: SpeedTracker,
-    marks: &[f32],
-) -> BankAnswered
+pub fn hullathan_bank_on_ready(b: PlainBank, primary: SpeedTracker, marks: &[f32]) -> BankAnswered
     ensures { BankAnswers (plain_then b (ready_refusal standard (bank_of b) primary marks.now)) b (on_ready standard (view (bank_of b)) (Tracked.view primary) marks.now) result }
 {
     let u = bank_of(b);
@@ -322,12 +310,7 @@ pub extern "C" fn hullathan_bank_on_ready(
 }
 
 // One gap, beside the primary.
-#[unsafe(no_mangle)]
-pub extern "C" fn hullathan_bank_on_gap(
-    b: PlainBank,
-    primary: SpeedTracker,
-    dur_ms: f32,
-) -> BankHeard
+pub fn hullathan_bank_on_gap(b: PlainBank, primary: SpeedTracker, dur_ms: f32) -> BankHeard
     ensures { BankHears (plain_then b (heard_refusal standard (bank_of b) primary dur_ms)) b (on_gap standard (view (bank_of b)) (Tracked.view primary) dur_ms) result }
 {
     let u = bank_of(b);
@@ -339,8 +322,7 @@ pub extern "C" fn hullathan_bank_on_gap(
 }
 
 // One mark, beside the primary, which has learnt it if it is live.
-#[unsafe(no_mangle)]
-pub extern "C" fn hullathan_bank_on_mark(
+pub fn hullathan_bank_on_mark(
     b: PlainBank,
     primary: SpeedTracker,
     dur_ms: f32,
@@ -357,8 +339,7 @@ pub extern "C" fn hullathan_bank_on_mark(
 }
 
 // A switch, where a choice is pending: the challenger and the primary, with its serial, are exchanged.
-#[unsafe(no_mangle)]
-pub extern "C" fn hullathan_bank_take_switch_by_value(
+pub fn hullathan_bank_take_switch_by_value(
     b: PlainBank,
     primary: SpeedTracker,
     serial: u64,

@@ -58,8 +58,7 @@ pub(crate) fn lent_answer(b: PlainBank, a: LentSwitched) -> BankLent
 }
 
 // A switch, where a choice is pending: the challenger and the lent primary, with its serial, are exchanged.
-#[unsafe(no_mangle)]
-pub extern "C" fn hullathan_bank_take_switch_lent(
+pub fn hullathan_bank_take_switch_lent(
     b: PlainBank,
     primary: &mut SpeedTracker,
     serial: u64,

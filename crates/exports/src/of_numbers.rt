@@ -12,8 +12,7 @@ ghost use Rattle.exports.specs.Answers.{code, left};
 use numbers::{Answer32, Answer64};
 
 // The natural logarithm of v; refused by 10.
-#[unsafe(no_mangle)]
-pub extern "C" fn hullathan_ln(v: f32, out: &mut f32) -> u8
+pub fn hullathan_ln(v: f32, out: &mut f32) -> u8
     ensures value { result ≡ code (ln_said v) }
     ensures out_after { out.new ≡ left (ln_said v) out.old }
 {
@@ -28,8 +27,7 @@ pub extern "C" fn hullathan_ln(v: f32, out: &mut f32) -> u8
 }
 
 // The square root of an f32; refused by 11.
-#[unsafe(no_mangle)]
-pub extern "C" fn hullathan_sqrt32(v: f32, out: &mut f32) -> u8
+pub fn hullathan_sqrt32(v: f32, out: &mut f32) -> u8
     ensures value { result ≡ code (sqrt_said binary32 v) }
     ensures out_after { out.new ≡ left (sqrt_said binary32 v) out.old }
 {
@@ -44,8 +42,7 @@ pub extern "C" fn hullathan_sqrt32(v: f32, out: &mut f32) -> u8
 }
 
 // The square root of an f64; refused by 11.
-#[unsafe(no_mangle)]
-pub extern "C" fn hullathan_sqrt64(v: f64, out: &mut f64) -> u8
+pub fn hullathan_sqrt64(v: f64, out: &mut f64) -> u8
     ensures value { result ≡ code (sqrt_said binary64 v) }
     ensures out_after { out.new ≡ left (sqrt_said binary64 v) out.old }
 {
@@ -60,8 +57,7 @@ pub extern "C" fn hullathan_sqrt64(v: f64, out: &mut f64) -> u8
 }
 
 // The f32 nearest to v: nothing is refused.
-#[unsafe(no_mangle)]
-pub extern "C" fn hullathan_narrow(v: f64, out: &mut f32) -> u8
+pub fn hullathan_narrow(v: f64, out: &mut f32) -> u8
     ensures value { result ≡ 0 }
     ensures out_after { out.new ≡ narrow v }
 {
@@ -70,8 +66,7 @@ pub extern "C" fn hullathan_narrow(v: f64, out: &mut f32) -> u8
 }
 
 // Rust's `v.clamp(lo, hi)`.
-#[unsafe(no_mangle)]
-pub extern "C" fn hullathan_clamp32(v: f32, lo: f32, hi: f32, out: &mut f32) -> u8
+pub fn hullathan_clamp32(v: f32, lo: f32, hi: f32, out: &mut f32) -> u8
     ensures value { result ≡ 0 }
     ensures out_after { out.new ≡ clamp lo hi v }
 {
@@ -80,8 +75,7 @@ pub extern "C" fn hullathan_clamp32(v: f32, lo: f32, hi: f32, out: &mut f32) -> 
 }
 
 // Rust's `a.max(b)`.
-#[unsafe(no_mangle)]
-pub extern "C" fn hullathan_max32(a: f32, b: f32, out: &mut f32) -> u8
+pub fn hullathan_max32(a: f32, b: f32, out: &mut f32) -> u8
     ensures value { result ≡ 0 }
     ensures out_after { out.new ≡ larger a b }
 {
@@ -90,8 +84,7 @@ pub extern "C" fn hullathan_max32(a: f32, b: f32, out: &mut f32) -> u8
 }
 
 // Rust's `v.abs()` of an f32.
-#[unsafe(no_mangle)]
-pub extern "C" fn hullathan_abs32(v: f32, out: &mut f32) -> u8
+pub fn hullathan_abs32(v: f32, out: &mut f32) -> u8
     ensures value { result ≡ 0 }
     ensures out_after { out.new ≡ abs v }
 {
@@ -100,8 +93,7 @@ pub extern "C" fn hullathan_abs32(v: f32, out: &mut f32) -> u8
 }
 
 // Rust's `v.abs()` of an f64.
-#[unsafe(no_mangle)]
-pub extern "C" fn hullathan_abs64(v: f64, out: &mut f64) -> u8
+pub fn hullathan_abs64(v: f64, out: &mut f64) -> u8
     ensures value { result ≡ 0 }
     ensures out_after { out.new ≡ abs v }
 {
@@ -110,8 +102,7 @@ pub extern "C" fn hullathan_abs64(v: f64, out: &mut f64) -> u8
 }
 
 // Rust's `v.is_finite()`.
-#[unsafe(no_mangle)]
-pub extern "C" fn hullathan_is_finite32(v: f32, out: &mut bool) -> u8
+pub fn hullathan_is_finite32(v: f32, out: &mut bool) -> u8
     ensures value { result ≡ 0 }
     ensures out_after { out.new ≡ finite v }
 {
@@ -120,8 +111,7 @@ pub extern "C" fn hullathan_is_finite32(v: f32, out: &mut bool) -> u8
 }
 
 // Whether a comes before b in Rust's total order.
-#[unsafe(no_mangle)]
-pub extern "C" fn hullathan_total_less32(a: f32, b: f32, out: &mut bool) -> u8
+pub fn hullathan_total_less32(a: f32, b: f32, out: &mut bool) -> u8
     ensures value { result ≡ 0 }
     ensures out_after { out.new ≡ total_less a b }
 {
@@ -130,8 +120,7 @@ pub extern "C" fn hullathan_total_less32(a: f32, b: f32, out: &mut bool) -> u8
 }
 
 // Whether the sign of v is minus.
-#[unsafe(no_mangle)]
-pub extern "C" fn hullathan_negative32(v: f32, out: &mut bool) -> u8
+pub fn hullathan_negative32(v: f32, out: &mut bool) -> u8
     ensures value { result ≡ 0 }
     ensures out_after { out.new ≡ negative v }
 {
@@ -140,8 +129,7 @@ pub extern "C" fn hullathan_negative32(v: f32, out: &mut bool) -> u8
 }
 
 // Rust's `v.sqrt()` of an f32, on every value: what the layers above take.
-#[unsafe(no_mangle)]
-pub extern "C" fn hullathan_root32(v: f32, out: &mut f32) -> u8
+pub fn hullathan_root32(v: f32, out: &mut f32) -> u8
     ensures value { result ≡ 0 }
     ensures out_after { out.new ≡ sqrt_of binary32 v }
 {
@@ -150,8 +138,7 @@ pub extern "C" fn hullathan_root32(v: f32, out: &mut f32) -> u8
 }
 
 // Rust's `v.sqrt()` of an f64, on every value.
-#[unsafe(no_mangle)]
-pub extern "C" fn hullathan_root64(v: f64, out: &mut f64) -> u8
+pub fn hullathan_root64(v: f64, out: &mut f64) -> u8
     ensures value { result ≡ 0 }
     ensures out_after { out.new ≡ sqrt_of binary64 v }
 {
@@ -160,8 +147,7 @@ pub extern "C" fn hullathan_root64(v: f64, out: &mut f64) -> u8
 }
 
 // Rust's `x < v.sqrt()`, on every value.
-#[unsafe(no_mangle)]
-pub extern "C" fn hullathan_below_root(x: f32, v: f32, out: &mut bool) -> u8
+pub fn hullathan_below_root(x: f32, v: f32, out: &mut bool) -> u8
     ensures value { result ≡ 0 }
     ensures out_after { out.new ≡ lt x (sqrt_of binary32 v) }
 {

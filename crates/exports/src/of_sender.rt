@@ -183,16 +183,14 @@ pub(crate) fn report(p: Report) -> SenderReport
 }
 
 // Statistics with no observations.
-#[unsafe(no_mangle)]
-pub extern "C" fn hullathan_sender_new() -> SenderTiming
+pub fn hullathan_sender_new() -> SenderTiming
     ensures { result ≡ blank }
 {
     SenderTiming::new()
 }
 
 // One duration of a class; the statistics are handed back.
-#[unsafe(no_mangle)]
-pub extern "C" fn hullathan_sender_observe_by_value(
+pub fn hullathan_sender_observe_by_value(
     t: SenderTiming,
     class: u8,
     dur_ms: f32,
@@ -220,8 +218,7 @@ pub extern "C" fn hullathan_sender_observe_by_value(
 }
 
 // The average of a class.
-#[unsafe(no_mangle)]
-pub extern "C" fn hullathan_sender_mean_dits(t: SenderTiming, class: u8) -> SenderNumber
+pub fn hullathan_sender_mean_dits(t: SenderTiming, class: u8) -> SenderNumber
     ensures { result ≡ numbered (mean_at (class_of class) (view t)) }
 {
     let k = class_named(class);
@@ -236,32 +233,28 @@ pub extern "C" fn hullathan_sender_mean_dits(t: SenderTiming, class: u8) -> Send
 }
 
 // The dash to dot ratio.
-#[unsafe(no_mangle)]
-pub extern "C" fn hullathan_sender_dash_dot_ratio(t: SenderTiming) -> SenderNumber
+pub fn hullathan_sender_dash_dot_ratio(t: SenderTiming) -> SenderNumber
     ensures { result ≡ numbered (unless (state_refusal (view t)) (ratio_said (view t))) }
 {
     ratio(t.dash_dot_ratio())
 }
 
 // The boundary between characters and words.
-#[unsafe(no_mangle)]
-pub extern "C" fn hullathan_sender_word_dits(t: SenderTiming) -> SenderNumber
+pub fn hullathan_sender_word_dits(t: SenderTiming) -> SenderNumber
     ensures { result ≡ numbered (unless (state_refusal (view t)) (word_said (view t))) }
 {
     length(t.sender_word_dits())
 }
 
 // Whether a closed word gap is a pause.
-#[unsafe(no_mangle)]
-pub extern "C" fn hullathan_sender_is_pause_by_value(t: SenderTiming, dits: f32) -> SenderFlag
+pub fn hullathan_sender_is_pause_by_value(t: SenderTiming, dits: f32) -> SenderFlag
     ensures { result ≡ flagged (unless (state_refusal (view t)) (pause_said dits (view t))) }
 {
     flag(t.is_pause(Dits(dits)))
 }
 
 // The five classes as a report.
-#[unsafe(no_mangle)]
-pub extern "C" fn hullathan_sender_estimates(t: SenderTiming, dit_ms: f32) -> SenderReport
+pub fn hullathan_sender_estimates(t: SenderTiming, dit_ms: f32) -> SenderReport
     ensures { result ≡ reported_as (unless (state_refusal (view t)) (reported dit_ms (view t))) }
 {
     report(t.estimates(Millis(dit_ms)))

@@ -149,80 +149,70 @@ pub(crate) fn plain_count(x: Count) -> TrackerCount
 }
 
 // A fresh tracker.
-#[unsafe(no_mangle)]
-pub extern "C" fn hullathan_tracker_new() -> SpeedTracker
+pub fn hullathan_tracker_new() -> SpeedTracker
     ensures { (view result ≡ fresh) × T (sound standard result) }
 {
     SpeedTracker::new()
 }
 
 // Whether it is ready.
-#[unsafe(no_mangle)]
-pub extern "C" fn hullathan_tracker_ready(t: SpeedTracker) -> TrackerFlag
+pub fn hullathan_tracker_ready(t: SpeedTracker) -> TrackerFlag
     ensures { result ≡ flagged (unless (state_then standard t 0) (flag (view t).pair.ready)) }
 {
     plain_flag(t.ready())
 }
 
 // The dit centroid.
-#[unsafe(no_mangle)]
-pub extern "C" fn hullathan_tracker_mu_dit_ms(t: SpeedTracker) -> TrackerNumber
+pub fn hullathan_tracker_mu_dit_ms(t: SpeedTracker) -> TrackerNumber
     ensures { result ≡ numbered (unless (state_then standard t 0) (number (view t).pair.lo)) }
 {
     reading(t.mu_dit_ms())
 }
 
 // The dah centroid.
-#[unsafe(no_mangle)]
-pub extern "C" fn hullathan_tracker_mu_dah_ms(t: SpeedTracker) -> TrackerNumber
+pub fn hullathan_tracker_mu_dah_ms(t: SpeedTracker) -> TrackerNumber
     ensures { result ≡ numbered (unless (state_then standard t 0) (number (view t).pair.hi)) }
 {
     reading(t.mu_dah_ms())
 }
 
 // The boundary between dits and dahs.
-#[unsafe(no_mangle)]
-pub extern "C" fn hullathan_tracker_boundary_ms(t: SpeedTracker) -> TrackerNumber
+pub fn hullathan_tracker_boundary_ms(t: SpeedTracker) -> TrackerNumber
     ensures { result ≡ numbered (unless (state_then standard t 0) (number (boundary (view t).pair))) }
 {
     reading(t.boundary_ms())
 }
 
 // The speed average.
-#[unsafe(no_mangle)]
-pub extern "C" fn hullathan_tracker_wpm(t: SpeedTracker) -> TrackerNumber
+pub fn hullathan_tracker_wpm(t: SpeedTracker) -> TrackerNumber
     ensures { result ≡ numbered (unless (state_then standard t 0) (optional (view t).wpm)) }
 {
     reading(t.wpm())
 }
 
 // How often the scale was rebuilt.
-#[unsafe(no_mangle)]
-pub extern "C" fn hullathan_tracker_regime(t: SpeedTracker) -> TrackerCount
+pub fn hullathan_tracker_regime(t: SpeedTracker) -> TrackerCount
     ensures { result ≡ counted (unless (state_then standard t 0) (count (view t).regime)) }
 {
     plain_count(t.regime())
 }
 
 // The gap centroid.
-#[unsafe(no_mangle)]
-pub extern "C" fn hullathan_tracker_mu_egap_ms(t: SpeedTracker) -> TrackerNumber
+pub fn hullathan_tracker_mu_egap_ms(t: SpeedTracker) -> TrackerNumber
     ensures { result ≡ numbered (unless (state_then standard t 0) (optional (view t).egap)) }
 {
     reading(t.mu_egap_ms())
 }
 
 // The dit estimate.
-#[unsafe(no_mangle)]
-pub extern "C" fn hullathan_tracker_dit_estimate_ms(t: SpeedTracker) -> TrackerNumber
+pub fn hullathan_tracker_dit_estimate_ms(t: SpeedTracker) -> TrackerNumber
     ensures { result ≡ numbered (unless (state_then standard t 0) (number (dit_estimate standard (view t)))) }
 {
     reading(t.dit_estimate_ms())
 }
 
 // The hint, or none where it is not finite.
-#[unsafe(no_mangle)]
-pub extern "C" fn hullathan_tracker_set_ratio_hint(t: SpeedTracker, hint: f32) -> TrackerTold
+pub fn hullathan_tracker_set_ratio_hint(t: SpeedTracker, hint: f32) -> TrackerTold
     ensures code_value { result.code ≡ code (unless (state_then standard t 0) done) }
     ensures handed { Handed standard (state_then standard t 0) t (set_hint standard (view t) hint) result.tracker }
 {
@@ -230,8 +220,7 @@ pub extern "C" fn hullathan_tracker_set_ratio_hint(t: SpeedTracker, hint: f32) -
 }
 
 // One element gap.
-#[unsafe(no_mangle)]
-pub extern "C" fn hullathan_tracker_on_element_gap(t: SpeedTracker, dur_ms: f32) -> TrackerTold
+pub fn hullathan_tracker_on_element_gap(t: SpeedTracker, dur_ms: f32) -> TrackerTold
     ensures code_value { result.code ≡ code (unless (state_then standard t (duration_refusal dur_ms)) done) }
     ensures handed { Handed standard (state_then standard t (duration_refusal dur_ms)) t (on_gap standard (view t) dur_ms) result.tracker }
 {
@@ -239,8 +228,7 @@ pub extern "C" fn hullathan_tracker_on_element_gap(t: SpeedTracker, dur_ms: f32)
 }
 
 // A seed, from a speed.
-#[unsafe(no_mangle)]
-pub extern "C" fn hullathan_tracker_seed_wpm(t: SpeedTracker, wpm: f32) -> TrackerTold
+pub fn hullathan_tracker_seed_wpm(t: SpeedTracker, wpm: f32) -> TrackerTold
     ensures code_value { result.code ≡ code (unless (state_then standard t (speed_refusal wpm)) done) }
     ensures handed { Handed standard (state_then standard t (speed_refusal wpm)) t (seeded standard (view t) wpm) result.tracker }
 {
@@ -248,8 +236,7 @@ pub extern "C" fn hullathan_tracker_seed_wpm(t: SpeedTracker, wpm: f32) -> Track
 }
 
 // One mark.
-#[unsafe(no_mangle)]
-pub extern "C" fn hullathan_tracker_on_mark(t: SpeedTracker, dur_ms: f32) -> TrackerTold
+pub fn hullathan_tracker_on_mark(t: SpeedTracker, dur_ms: f32) -> TrackerTold
     ensures code_value { result.code ≡ code (unless (state_then standard t (duration_refusal dur_ms)) done) }
     ensures handed { Handed standard (state_then standard t (duration_refusal dur_ms)) t (on_mark standard (view t) dur_ms) result.tracker }
 {
@@ -257,8 +244,7 @@ pub extern "C" fn hullathan_tracker_on_mark(t: SpeedTracker, dur_ms: f32) -> Tra
 }
 
 // The speed average of a ready tracker begins anew.
-#[unsafe(no_mangle)]
-pub extern "C" fn hullathan_tracker_reseed_wpm_after_warmup(t: SpeedTracker) -> TrackerTold
+pub fn hullathan_tracker_reseed_wpm_after_warmup(t: SpeedTracker) -> TrackerTold
     ensures code_value { result.code ≡ code (unless (state_then standard t 0) done) }
     ensures handed { Handed standard (state_then standard t 0) t (reseeded standard (view t)) result.tracker }
 {
@@ -266,8 +252,7 @@ pub extern "C" fn hullathan_tracker_reseed_wpm_after_warmup(t: SpeedTracker) -> 
 }
 
 // Whether a fragment was recovered from since the last such call.
-#[unsafe(no_mangle)]
-pub extern "C" fn hullathan_tracker_take_badlock_recovered(t: SpeedTracker) -> TrackerFlagged
+pub fn hullathan_tracker_take_badlock_recovered(t: SpeedTracker) -> TrackerFlagged
     ensures code_value { result.code ≡ code (unless (state_then standard t 0) (flag (view t).recovered)) }
     ensures yes_value { result.yes ≡ yes (unless (state_then standard t 0) (flag (view t).recovered)) }
     ensures handed { Handed standard (state_then standard t 0) t (settled (view t)) result.tracker }
@@ -276,8 +261,7 @@ pub extern "C" fn hullathan_tracker_take_badlock_recovered(t: SpeedTracker) -> T
 }
 
 // A finish: whether it made the tracker ready.
-#[unsafe(no_mangle)]
-pub extern "C" fn hullathan_tracker_bootstrap(t: SpeedTracker) -> TrackerFlagged
+pub fn hullathan_tracker_bootstrap(t: SpeedTracker) -> TrackerFlagged
     ensures code_value { result.code ≡ code (unless (state_then standard t 0) (flag (can_begin (view t)))) }
     ensures yes_value { result.yes ≡ yes (unless (state_then standard t 0) (flag (can_begin (view t)))) }
     ensures handed { Handed standard (state_then standard t 0) t (bootstrapped standard (view t)) result.tracker }
@@ -286,8 +270,7 @@ pub extern "C" fn hullathan_tracker_bootstrap(t: SpeedTracker) -> TrackerFlagged
 }
 
 // Gaps that may say that assumed dits are dahs: whether they do.
-#[unsafe(no_mangle)]
-pub extern "C" fn hullathan_tracker_resolve_unimodal_bootstrap(
+pub fn hullathan_tracker_resolve_unimodal_bootstrap(
     t: SpeedTracker,
     gaps_ms: &[f32],
 ) -> TrackerFlagged

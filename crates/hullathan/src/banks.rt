@@ -1,5 +1,5 @@
-// The switch call on a bank and on the tracker that a host lends, as C and Rust link it: the three are copied out of the host's memory, and
-// what the call by value hands back is stored.
+// The switch call on a bank and on the tracker that a host lends, which the crate `hullathan_c` exports to C and Rust: the
+// three are copied out of the host's memory, and what the call by value hands back is stored.
 ghost use Rattle.plain_switch.specs.Switch.{Exchanges};
 
 use plain::PlainBank;
@@ -7,8 +7,7 @@ use plain_switch::exchanged;
 use plain_tracker::PlainTracker;
 
 // A switch, where a choice is pending: the challenger and the lent primary, with its serial, are exchanged.
-#[unsafe(no_mangle)]
-pub extern "C" fn hullathan_bank_take_switch(
+pub fn hullathan_bank_take_switch(
     b: &mut PlainBank,
     primary: &mut PlainTracker,
     serial: &mut u64,

@@ -1,4 +1,5 @@
-// The functions of a station that C and Rust link. Each copies out of the host's memory, calls a function by value, and stores what that hands back.
+// The functions of a station in the host's own memory, which the crate `hullathan_c` exports to C and Rust. Each copies
+// out of the host's memory, calls a function by value, and stores what that hands back.
 ghost use Rattle.std.specs.Prelude.{◌≡◌};
 ghost use Rattle.hullathan.specs.Host.{Answers, Runs, event_of, reads};
 ghost use Rattle.hullathan.specs.Promise.{Begins};
@@ -11,8 +12,7 @@ use crate::{PlainAnswer, PlainBatch, PlainReading};
 use plain_station::PlainStation;
 
 // A fresh station, whatever stood in its place.
-#[unsafe(no_mangle)]
-pub extern "C" fn hullathan_start(s: &mut PlainStation, width: usize, switching: u8) -> u8
+pub fn hullathan_start(s: &mut PlainStation, width: usize, switching: u8) -> u8
     ensures { Begins width switching result s.new }
 {
     let k = started(width, switching);
@@ -21,13 +21,7 @@ pub extern "C" fn hullathan_start(s: &mut PlainStation, width: usize, switching:
 }
 
 // One call: the kind of the event, whether it is live, and its number.
-#[unsafe(no_mangle)]
-pub extern "C" fn hullathan_call(
-    s: &mut PlainStation,
-    kind: u8,
-    live: u8,
-    value: f32,
-) -> PlainAnswer
+pub fn hullathan_call(s: &mut PlainStation, kind: u8, live: u8, value: f32) -> PlainAnswer
     ensures { Answers (event_of kind live value) s.old result s.new }
 {
     let k = called(*s, kind, live, value);
@@ -36,8 +30,7 @@ pub extern "C" fn hullathan_call(
 }
 
 // A batch of events, answered in it.
-#[unsafe(no_mangle)]
-pub extern "C" fn hullathan_run(s: &mut PlainStation, b: &mut PlainBatch) -> u8
+pub fn hullathan_run(s: &mut PlainStation, b: &mut PlainBatch) -> u8
     ensures { Runs s.old b.old result s.new b.new }
 {
     let k = ran(*s, *b);
@@ -47,8 +40,7 @@ pub extern "C" fn hullathan_run(s: &mut PlainStation, b: &mut PlainBatch) -> u8
 }
 
 // What a display and a log need.
-#[unsafe(no_mangle)]
-pub extern "C" fn hullathan_read(s: &PlainStation) -> PlainReading
+pub fn hullathan_read(s: &PlainStation) -> PlainReading
     ensures { result ≡ reads s.now }
 {
     reading(*s)

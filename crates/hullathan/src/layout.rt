@@ -304,8 +304,7 @@ pub(crate) fn rival_placed(m: u8) -> PlainRival
 }
 
 // A station, with all that it holds.
-#[unsafe(no_mangle)]
-pub extern "C" fn hullathan_layout_station() -> PlainStation
+pub fn hullathan_layout_station() -> PlainStation
     ensures { result ≡ Placed.station }
 {
     let primary = tracker_placed();
@@ -324,16 +323,14 @@ pub extern "C" fn hullathan_layout_station() -> PlainStation
 }
 
 // An answer.
-#[unsafe(no_mangle)]
-pub extern "C" fn hullathan_layout_answer() -> PlainAnswer
+pub fn hullathan_layout_answer() -> PlainAnswer
     ensures { result ≡ Placed.answer 0 }
 {
     answer_placed(0)
 }
 
 // A batch.
-#[unsafe(no_mangle)]
-pub extern "C" fn hullathan_layout_batch() -> PlainBatch
+pub fn hullathan_layout_batch() -> PlainBatch
     ensures { result ≡ Placed.batch }
 {
     let e = event_placed(0);
@@ -352,8 +349,7 @@ pub extern "C" fn hullathan_layout_batch() -> PlainBatch
 }
 
 // A reading.
-#[unsafe(no_mangle)]
-pub extern "C" fn hullathan_layout_reading() -> PlainReading
+pub fn hullathan_layout_reading() -> PlainReading
     ensures { result ≡ Placed.reading }
 {
     let v = rival_placed(0);
@@ -403,8 +399,7 @@ pub(crate) fn stats_placed() -> ClassStats
 }
 
 // A sender's statistics.
-#[unsafe(no_mangle)]
-pub extern "C" fn hullathan_layout_sender() -> SenderTiming
+pub fn hullathan_layout_sender() -> SenderTiming
     ensures { result ≡ Placed.sender }
 {
     let c = stats_placed();
@@ -418,8 +413,7 @@ pub extern "C" fn hullathan_layout_sender() -> SenderTiming
 }
 
 // What is read of a sender.
-#[unsafe(no_mangle)]
-pub extern "C" fn hullathan_layout_sender_reading() -> SenderReading
+pub fn hullathan_layout_sender_reading() -> SenderReading
     ensures { result ≡ Placed.sender_reading }
 {
     let c = stats_placed();

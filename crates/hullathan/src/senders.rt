@@ -1,5 +1,5 @@
-// The functions of a sender's statistics that C and Rust link. Each copies out of the host's memory, calls a function by value, and
-// stores what that hands back.
+// The functions of a sender's statistics in the host's own memory, which the crate `hullathan_c` exports to C and Rust.
+// Each copies out of the host's memory, calls a function by value, and stores what that hands back.
 ghost use Rattle.std.specs.Prelude.{◌≡◌};
 ghost use Rattle.sender.specs.Model.{blank};
 ghost use Rattle.plain_sender.specs.Plain.{Observes, class_of, pauses_at, reads};
@@ -8,8 +8,7 @@ use plain_sender::{SenderReading, observed, pause, reading};
 use sender::SenderTiming;
 
 // Statistics with no observations, whatever stood in their place.
-#[unsafe(no_mangle)]
-pub extern "C" fn hullathan_sender_start(t: &mut SenderTiming)
+pub fn hullathan_sender_start(t: &mut SenderTiming)
     ensures { t.new ≡ blank }
 {
     let k = SenderTiming::new();
@@ -17,8 +16,7 @@ pub extern "C" fn hullathan_sender_start(t: &mut SenderTiming)
 }
 
 // One duration of a class, by its number, measured against a dit.
-#[unsafe(no_mangle)]
-pub extern "C" fn hullathan_sender_observe(
+pub fn hullathan_sender_observe(
     t: &mut SenderTiming,
     timing_class: u8,
     dur_ms: f32,
@@ -32,16 +30,14 @@ pub extern "C" fn hullathan_sender_observe(
 }
 
 // What a display shows of a sender.
-#[unsafe(no_mangle)]
-pub extern "C" fn hullathan_sender_read(t: &SenderTiming, dit_ms: f32) -> SenderReading
+pub fn hullathan_sender_read(t: &SenderTiming, dit_ms: f32) -> SenderReading
     ensures { result ≡ reads dit_ms t.now }
 {
     reading(*t, dit_ms)
 }
 
 // Whether a closed word gap is a pause.
-#[unsafe(no_mangle)]
-pub extern "C" fn hullathan_sender_is_pause(t: &SenderTiming, gap_dits: f32) -> u8
+pub fn hullathan_sender_is_pause(t: &SenderTiming, gap_dits: f32) -> u8
     ensures { result ≡ pauses_at gap_dits t.now }
 {
     pause(*t, gap_dits)

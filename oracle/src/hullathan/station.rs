@@ -1,4 +1,4 @@
-//! The station in the host's own memory, as `rt staticlib hullathan` has it for C and Rust: an event by its kind, 0 mark, 1 gap, 2 finish,
+//! The station in the host's own memory, as `tools/archive hullathan` has it for C and Rust: an event by its kind, 0 mark, 1 gap, 2 finish,
 //! 3 seed, 4 hint, 5 clear, 6 switch. A code is one byte: 0 done, 1 became ready, 2 switched, 3 nothing to do; refused: 128 and the number.
 
 use super::bank::{Bank, Departure, Record, LEFT};

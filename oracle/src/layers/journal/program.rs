@@ -26,13 +26,13 @@ pub struct Parted {
 }
 
 impl Program {
-    /// The proved one: where `rt` puts it, or where HULLATHAN_JOURNAL says.
+    /// The proved one: where `./journal` and the gate put it, or where HULLATHAN_JOURNAL says.
     pub fn ours() -> Result<Program, String> {
         let built = Path::new(env!("CARGO_MANIFEST_DIR")).with_file_name("target/bin/journal");
         let path = env::var_os("HULLATHAN_JOURNAL").map_or(built, PathBuf::from);
         if !path.is_file() {
             return Err(format!(
-                "{} is not there. `rt check journal`, in the repository's root, makes it",
+                "{} is not there. `./journal </dev/null`, in the repository's root, makes it",
                 path.display()
             ));
         }
