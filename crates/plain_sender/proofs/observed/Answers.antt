@@ -16,13 +16,13 @@ told-requires c =
 
 pub returns-in-Is : goal.returns-in-Is
 returns-in-Is c =
-    let s = c.before.before.before.before.before.before in
+    let s = c in
     let a = s.args in
     let o = c.observe-r in
     let e = ap of_named (sym c.in-Is.is) ∙ s.class_named-k.ensures in
-    let says = c.told.ensures ∙ said_coded (view a.t) a.dur_ms a.dit_ms _ o.ensures.0 in
+    let says = c.told.ensures ∙ said_coded (view a.t) a.dur_ms a.dit_ms _ o.ensures.told_value in
     subst (λ (k : Option TimingClass). Observes k a.dur_ms a.dit_ms a.t c.told.result o.result.timing) e
-    (observes_named _ a.dur_ms a.dit_ms a.t _ o.ensures.1.0 o.ensures.1.1 _ says)
+    (observes_named _ a.dur_ms a.dit_ms a.t _ o.ensures.left o.ensures.timing_value _ says)
 
 pub returns-in-Unknown : goal.returns-in-Unknown
 returns-in-Unknown c =
