@@ -1,6 +1,8 @@
 // The library for receivers: a station, a bank with a lent tracker and a sender's statistics in the host's own memory,
 // in C or Rust. No contract has a `requires`: whatever bytes stand there, a call does its work or refuses by document
 // 01's number. What the machine must grant (stack, floating-point environment) stands in the header.
+#![tactic(auto)]
+
 use bank_model::MOST_LEFT;
 use plain::{PlainDeparture, PlainRecord};
 use plain_station::PlainStation;

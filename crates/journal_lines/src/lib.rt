@@ -1,4 +1,6 @@
 // The journal of document 01, "Journal program": its input is cut into lines, each line is answered, the answers are written.
+#![tactic(auto)]
+
 use line_out::Shown;
 use station::Station;
 

@@ -1,0 +1,9 @@
+-- `exports::of_tracker::hullathan_tracker_on_mark` hands on what the call says. Assumes nothing.
+use mathlib.Core.Path.{ap, ◌∙◌}
+use Rattle.exports.specs.Tracker.{code}
+use Rattle.exports.proofs.Handing.{handed}
+use borrow.Author.Rules.{rules}
+use Rattle.exports.proofs.of_tracker.hullathan_tracker_on_mark.Goals as goal
+
+pub returns : goal.returns
+returns c = record { code_value = c.told.ensures.0 ∙ ap code c.on_mark.ensures.says; handed = handed c.on_mark.ensures c.told.ensures.1 }

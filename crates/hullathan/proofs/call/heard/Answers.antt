@@ -1,0 +1,7 @@
+-- `hullathan::call::heard` meets its contract. Assumes nothing.
+use Rattle.hullathan.proofs.Calling.{turn_fits, turn_handed}
+use borrow.Author.Rules.{rules}
+use Rattle.hullathan.proofs.call.heard.Goals as goal
+
+pub returns : goal.returns
+returns c = turn_handed _ _ _ _ _ c.turn.ensures c.found.ensures

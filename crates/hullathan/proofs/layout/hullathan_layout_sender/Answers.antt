@@ -1,0 +1,6 @@
+-- `hullathan::layout::hullathan_layout_sender` meets its contract. Assumes nothing.
+use borrow.Author.Rules.{rules}
+use Rattle.hullathan.proofs.layout.hullathan_layout_sender.Goals as goal
+
+pub returns : goal.returns
+returns c = rw c.stats_placed-c.ensures

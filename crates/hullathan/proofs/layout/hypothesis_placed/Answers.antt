@@ -1,0 +1,18 @@
+-- `hullathan::layout::hypothesis_placed` meets its contract. Assumes nothing.
+use Rattle.hullathan.specs.Layout.{ending}
+use borrow.Author.Rules.{rules}
+use Rattle.hullathan.proofs.layout.hypothesis_placed.Goals as goal
+
+pub returns : goal.returns
+unfolding ending
+returns c =
+    rw (
+      c.bytes_4.ensures,
+      c.float_at-4.ensures,
+      c.float_at-3.ensures,
+      c.bytes_3-2.ensures,
+      c.bytes_3.ensures,
+      c.float_at-2.ensures,
+      c.float_at.ensures,
+      c.tracker_placed-tracker.ensures,
+    )

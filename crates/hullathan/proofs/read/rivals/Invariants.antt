@@ -1,0 +1,14 @@
+-- `hullathan::read::rivals` meets its contract. Assumes nothing.
+use mathlib.Core.Path.{◌∙◌}
+use Prim.Native.Nat.{◌-◌, ◌≤◌}
+use borrow.Author.Rules.{rules}
+use Rattle.plain_tracker.proofs.Carrying.{Carrying, filled, carry_begins, carry_turns, carry_ends}
+use Rattle.hullathan.specs.Host.{no_rival}
+use Rattle.hullathan.proofs.Rows.{rival_in, rivals_shown}
+use Rattle.hullathan.proofs.read.rivals.Given as goal
+
+abbrev pub invariant-loop-i : goal.invariant-loop-i
+invariant-loop-i l = (l.n ≤ 8) × Carrying rival_in no_rival l.b.challengers l.n l.out l.i
+
+abbrev pub decreases-loop-i : goal.decreases-loop-i
+decreases-loop-i l = l.n - l.i
