@@ -1,9 +1,14 @@
 -- `journal::answer` meets its contract. Assumes nothing.
-use Rattle.journal.proofs.Serving.{heard_from, not_so, so, serve_begins, serve_ends, serve_fails, serve_less, serve_turns, serve_wrote}
+use Rattle.journal.proofs.Serving.{heard_from, not_so, so, serve_answers, serve_begins, serve_ends, serve_fails, serve_less, serve_turns, serve_wrote}
 use Rattle.journal.proofs.answer.Goals as goal
 
 pub loop-at-init : goal.loop-at-init
 loop-at-init g c = serve_begins _ _ _ _ _ c.go_on-went.ensures c.requires.goes c.requires.in_bounds
+
+pub put-went-requires-clause-answers : goal.put-went-requires-clause-answers
+put-went-requires-clause-answers g c =
+    serve_answers _ _ _ _ _ _ _ _ c.loop-at.invariant _ _ (c.feed-r.ensures.feeds, c.feed-r.ensures.used_value)
+    c.feed-r.auto.out
 
 pub returns-then-not-went-clause-heard : goal.returns-then-not-went-clause-heard
 returns-then-not-went-clause-heard g c =
