@@ -1,5 +1,5 @@
 -- `journal::answer` meets its contract. Assumes nothing.
-use Rattle.journal.proofs.Serving.{heard_from, not_so, so, serve_answers, serve_begins, serve_ends, serve_fails, serve_less, serve_turns, serve_wrote}
+use Rattle.journal.proofs.Serving.{heard_from, not_so, so, serve_answers, serve_begins, serve_fails, serve_less, serve_turns}
 use Rattle.journal.proofs.answer.Goals as goal
 
 pub loop-at-init : goal.loop-at-init

@@ -1,5 +1,4 @@
 -- `journal::run` meets its contract. Assumes nothing.
-use Rattle.std.proofs.Common.{subst, sym, ℕ}
 use Rattle.journal.proofs.Serving.{not_so, so}
 use Rattle.journal.proofs.Taking.{all_moved, read_begins, read_ends, read_turns}
 use Rattle.journal.proofs.run.Goals as goal

@@ -8,7 +8,6 @@ use lib.ListN.{get_or}
 use Rattle.line_in.specs.Fields.{fields}
 use Rattle.line_in.specs.Form.{said}
 use Rattle.line_in.proofs.Forms.{too_long, unlettered, letter_alone, letter_first}
-use borrow.Author.Rules.{rules}
 use Rattle.line_in.proofs.entry_of.Goals as goal
 
 pub returns-then-line-gt79 : goal.returns-then-line-gt79

@@ -3,7 +3,6 @@ use mathlib.Core.Path.{◌≡◌, sym, ap, ◌∙◌}
 use mathlib.Core.Bool.{true, false, not}
 use lib.Ieee.{is_nan}
 use Rattle.order.proofs.Laws.{nan_is, total_nan, total_over, total_less_law, total_zeros, total_plus, total_more}
-use borrow.Author.Rules.{rules}
 use Rattle.order.proofs.total_less32.Goals as goal
 use Rattle.order.proofs.total_less32.Goals.{Else-a, Else-b, Then-a}
 

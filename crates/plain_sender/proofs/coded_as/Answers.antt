@@ -1,7 +1,6 @@
 -- `plain_sender::coded_as` meets its contract. Assumes nothing.
 use mathlib.Core.Path.{ap, sym}
 use Rattle.plain_sender.specs.Plain.{coded}
-use borrow.Author.Rules.{rules}
 use Rattle.plain_sender.proofs.Sending.{coded_more}
 use Rattle.plain_sender.proofs.coded_as.Goals as goal
 

@@ -4,7 +4,6 @@ use mathlib.Core.Path.{sym, ap}
 use Rattle.sender.specs.declared.Length.{Length}
 use Rattle.sender.specs.Answers.{of_length}
 use Rattle.plain_sender.specs.Parts.{number_in}
-use borrow.Author.Rules.{rules}
 use Rattle.plain_sender.proofs.length_or.Goals as goal
 
 pub returns-in-Absent : goal.returns-in-Absent

@@ -6,7 +6,6 @@ use Rattle.sender.specs.Model.{view}
 use Rattle.plain_sender.specs.Plain.{Observes}
 use Rattle.plain_sender.specs.Parts.{of_named}
 use Rattle.plain_sender.proofs.Sending.{observes_named, observes_none, said_coded, said_few}
-use borrow.Author.Rules.{rules}
 use Rattle.plain_sender.proofs.observed.Goals as goal
 
 pub told-requires : goal.told-requires

@@ -1,6 +1,5 @@
 -- `plain_sender::pause` meets its contract. Assumes nothing.
 use mathlib.Core.Path.{sym, ◌∙◌}
-use borrow.Author.Rules.{rules}
 use Rattle.plain_sender.proofs.pause.Goals as goal
 
 pub returns-then-is_pause : goal.returns-then-is_pause

@@ -4,7 +4,6 @@ use mathlib.Core.Path.{sym, ap}
 use Rattle.sender.specs.declared.Ratio.{Ratio}
 use Rattle.sender.specs.Answers.{of_ratio}
 use Rattle.plain_sender.specs.Parts.{number_in}
-use borrow.Author.Rules.{rules}
 use Rattle.plain_sender.proofs.ratio_or.Goals as goal
 
 pub returns-in-Absent : goal.returns-in-Absent

@@ -1,7 +1,6 @@
 -- `plain_sender::read_of` meets its contract. Assumes nothing.
 use Rattle.sender.specs.Model.{view}
 use Rattle.plain_sender.proofs.Sending.{reading_made}
-use borrow.Author.Rules.{rules}
 use Rattle.plain_sender.proofs.read_of.Goals as goal
 
 pub returns : goal.returns

@@ -1,7 +1,6 @@
 -- `plain_sender::reading` meets its contract. Assumes nothing.
 use mathlib.Core.Path.{sym, ◌∙◌}
 use Rattle.ranges.proofs.Compare.{passed}
-use borrow.Author.Rules.{rules}
 use Rattle.plain_sender.proofs.reading.Goals as goal
 
 pub read_of-requires : goal.read_of-requires

@@ -5,7 +5,6 @@ use Rattle.sender.specs.declared.Told.{Told}
 use Rattle.sender.specs.Answers.{of_told}
 use Rattle.plain_sender.specs.Plain.{coded}
 use Rattle.plain_sender.specs.Parts.{refusal_in}
-use borrow.Author.Rules.{rules}
 use Rattle.plain_sender.proofs.told.Goals as goal
 
 pub coded_as-requires : goal.coded_as-requires

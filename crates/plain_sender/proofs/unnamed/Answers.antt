@@ -1,11 +1,10 @@
 -- `plain_sender::unnamed` meets its contract. Assumes nothing.
-use mathlib.Core.Path.{ap, sym, ◌∙◌}
+use mathlib.Core.Path.{ap, ◌∙◌}
 use Prim.Native.Nat.{ℕ}
 use Rattle.sender.specs.Model.{view}
 use Rattle.sender.specs.Answers.{first_of}
 use Rattle.plain_sender.specs.Plain.{coded}
 use Rattle.plain_sender.proofs.Sending.{coded_first, coded_none, refused_few}
-use borrow.Author.Rules.{rules}
 use Rattle.plain_sender.proofs.unnamed.Goals as goal
 
 pub coded_as-requires : goal.coded_as-requires

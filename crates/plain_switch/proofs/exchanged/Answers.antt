@@ -1,7 +1,6 @@
 -- `plain_switch::exchanged` meets its contract. Assumes nothing.
 use mathlib.Core.Path.{sym, ◌∙◌}
 use Rattle.plain_switch.proofs.Exchanging.{answered, few_refusals, forms_are, none_there}
-use borrow.Author.Rules.{rules}
 use Rattle.plain_switch.proofs.exchanged.Goals as goal
 
 pub told-requires : goal.told-requires

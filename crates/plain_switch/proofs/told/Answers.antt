@@ -1,6 +1,5 @@
 -- `plain_switch::told` meets its contract. Assumes nothing.
 use Rattle.plain_switch.proofs.Exchanging.{told_fits, told_no, told_refused, told_yes}
-use borrow.Author.Rules.{rules}
 use Rattle.plain_switch.proofs.told.Goals as goal
 
 pub returns-then-on : goal.returns-then-on

@@ -1,9 +1,6 @@
 -- `ranges::duration_refusal` meets its contract. Assumes nothing.
 use mathlib.Core.Path.{refl, sym, ◌∙◌}
-use borrow.Author.Rules.{rules}
 use Rattle.ranges.proofs.Door.{refusal_is}
-use Rattle.ranges.proofs.duration_refusal.Reads as reads
-use Rattle.ranges.proofs.duration_refusal.Lts as lts
 use Rattle.ranges.proofs.duration_refusal.Goals as goal
 
 pub returns-then-x : goal.returns-then-x

@@ -1,5 +1,5 @@
 -- `bank::TimingBank::challenger` meets its contract. Assumes nothing.
-use Rattle.std.proofs.Common.{◌≡◌, sym, refl, ap, ◌∙◌, arith, rules}
+use Rattle.std.proofs.Common.{sym, ap, ◌∙◌, arith}
 use Rattle.bank.proofs.Answering.{shows, shows_not, held, gone, told_of}
 use Rattle.bank.specs.Answers.{to_told}
 use Rattle.bank.proofs.TimingBank.challenger.Goals as goal

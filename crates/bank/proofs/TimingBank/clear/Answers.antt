@@ -1,6 +1,5 @@
 -- `bank::TimingBank::clear` meets its contract. Assumes nothing.
 use Rattle.bank.proofs.Answering.{answers, answers_not}
-use Rattle.std.proofs.Common.{rules}
 use Rattle.bank.proofs.TimingBank.clear.Goals as goal
 
 pub clear-requires : goal.clear-requires

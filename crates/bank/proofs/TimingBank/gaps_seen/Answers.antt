@@ -1,5 +1,5 @@
 -- `bank::TimingBank::gaps_seen` meets its contract. Assumes nothing.
-use Rattle.std.proofs.Common.{◌≡◌, sym, refl, ap, ◌∙◌, rules}
+use Rattle.std.proofs.Common.{sym, refl, ◌∙◌}
 use Rattle.bank.proofs.Answering.{reads, reads_not}
 use Rattle.bank.proofs.TimingBank.gaps_seen.Goals as goal
 

@@ -1,5 +1,5 @@
 -- `bank::TimingBank::hypotheses` meets its contract. Assumes nothing.
-use Rattle.std.proofs.Common.{◌≡◌, sym, refl, ap, ◌∙◌, arith, rules}
+use Rattle.std.proofs.Common.{sym, refl, ◌∙◌, arith}
 use Rattle.bank.proofs.Answering.{reads, reads_not}
 use Rattle.bank.proofs.TimingBank.hypotheses.Goals as goal
 

@@ -1,6 +1,5 @@
 -- `bank::TimingBank::new` meets its contract. Assumes nothing.
 use Rattle.bank.proofs.Answering.{begins, begins_not}
-use Rattle.std.proofs.Common.{rules}
 use Rattle.bank.proofs.TimingBank.new.Goals as goal
 
 pub returns-then-width-le8 : goal.returns-then-width-le8

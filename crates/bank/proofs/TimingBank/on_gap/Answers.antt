@@ -1,7 +1,6 @@
 -- `bank::TimingBank::on_gap` meets its contract. Assumes nothing.
 use Rattle.bank.proofs.Answering.{hears, hears_not}
 use Rattle.bank.proofs.Refusing.{heard_needs}
-use Rattle.std.proofs.Common.{rules}
 use Rattle.bank.proofs.TimingBank.on_gap.Goals as goal
 
 pub on_gap-requires : goal.on_gap-requires

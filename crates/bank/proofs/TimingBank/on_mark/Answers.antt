@@ -1,7 +1,6 @@
 -- `bank::TimingBank::on_mark` meets its contract. Assumes nothing.
 use Rattle.bank.proofs.Answering.{answers, answers_not}
 use Rattle.bank.proofs.Refusing.{heard_needs}
-use Rattle.std.proofs.Common.{rules}
 use Rattle.bank.proofs.TimingBank.on_mark.Goals as goal
 
 pub on_mark-requires : goal.on_mark-requires

@@ -1,7 +1,6 @@
 -- `bank::TimingBank::on_ready` meets its contract. Assumes nothing.
 use Rattle.bank.proofs.Answering.{answers, answers_not}
 use Rattle.bank.proofs.Refusing.{ready_needs}
-use Rattle.std.proofs.Common.{rules}
 use Rattle.bank.proofs.TimingBank.on_ready.Goals as goal
 
 pub on_ready-requires : goal.on_ready-requires

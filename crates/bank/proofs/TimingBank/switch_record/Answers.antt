@@ -1,5 +1,5 @@
 -- `bank::TimingBank::switch_record` meets its contract. Assumes nothing.
-use Rattle.std.proofs.Common.{◌≡◌, sym, refl, ap, ◌∙◌, arith, rules}
+use Rattle.std.proofs.Common.{sym, ◌∙◌, arith}
 use Rattle.bank.proofs.Answering.{shows, shows_not, held, gone}
 use Rattle.bank.proofs.TimingBank.switch_record.Goals as goal
 

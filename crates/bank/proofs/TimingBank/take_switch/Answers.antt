@@ -1,7 +1,6 @@
 -- `bank::TimingBank::take_switch` meets its contract. Assumes nothing.
 use Rattle.bank.proofs.Answering.{switches, switches_not}
 use Rattle.bank.proofs.Refusing.{switch_needs}
-use Rattle.std.proofs.Common.{rules}
 use Rattle.bank.proofs.TimingBank.take_switch.Goals as goal
 
 pub take_switch-t-requires : goal.take_switch-t-requires

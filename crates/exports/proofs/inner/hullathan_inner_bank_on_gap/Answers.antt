@@ -7,7 +7,6 @@ use Rattle.bank.specs.declared.TimingBank.{TimingBank}
 use Rattle.bank.specs.View.{view}
 use Rattle.bank.specs.Parts.{Countable, Sturdy}
 use Rattle.exports.proofs.Banking.{held, neat, read, view_as}
-use borrow.Author.Rules.{rules}
 use Rattle.exports.proofs.inner.hullathan_inner_bank_on_gap.Goals as goal
 
 pub on_gap-requires : goal.on_gap-requires

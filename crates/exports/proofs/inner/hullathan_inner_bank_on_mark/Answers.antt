@@ -7,7 +7,6 @@ use Rattle.bank.specs.declared.TimingBank.{TimingBank}
 use Rattle.bank.specs.View.{view}
 use Rattle.bank.specs.Parts.{Countable, Sturdy}
 use Rattle.exports.proofs.Banking.{changed_is, held, left_blank, neat, read}
-use borrow.Author.Rules.{rules}
 use Rattle.exports.proofs.inner.hullathan_inner_bank_on_mark.Goals as goal
 
 pub on_mark-m-requires : goal.on_mark-m-requires

@@ -1,7 +1,6 @@
 -- `exports::inner::hullathan_inner_bank_same` hands on what the call says. Assumes nothing.
 use mathlib.Core.Path.{ap, ◌∙◌}
 use Rattle.plain.specs.Plain.{plain_bank}
-use borrow.Author.Rules.{rules}
 use Rattle.exports.proofs.inner.hullathan_inner_bank_same.Goals as goal
 
 pub returns : goal.returns

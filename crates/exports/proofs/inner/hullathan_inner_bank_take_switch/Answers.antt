@@ -7,7 +7,6 @@ use Rattle.bank.specs.View.{view}
 use Rattle.bank.specs.Parts.{Sturdy}
 use Rattle.bank.specs.Switching.{Chosen}
 use Rattle.exports.proofs.Banking.{held, neat, read, taken_is}
-use borrow.Author.Rules.{rules}
 use Rattle.exports.proofs.inner.hullathan_inner_bank_take_switch.Goals as goal
 
 pub take_switch-t-requires : goal.take_switch-t-requires

@@ -1,5 +1,4 @@
 -- `exports::of_bank::answered` meets its contract. Assumes nothing.
-use borrow.Author.Rules.{rules}
 use Rattle.exports.proofs.of_bank.answered.Goals as goal
 
 pub returns : goal.returns

@@ -5,7 +5,6 @@ use Rattle.bank.specs.declared.Place.{Place}
 use Rattle.bank.specs.Answers.{placed}
 use Rattle.exports.specs.Bank.{challenged}
 use Rattle.exports.proofs.Rivals.{a_challenger}
-use borrow.Author.Rules.{rules}
 use Rattle.exports.proofs.of_bank.challenger.Goals as goal
 
 pub returns-in-Held : goal.returns-in-Held

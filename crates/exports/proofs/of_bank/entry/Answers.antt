@@ -3,7 +3,6 @@ use mathlib.Core.Path.{ap, sym, ◌∙◌}
 use Rattle.bank.specs.declared.Logged.{Logged}
 use Rattle.bank.specs.Answers.{of_logged}
 use Rattle.exports.specs.Bank.{logged}
-use borrow.Author.Rules.{rules}
 use Rattle.exports.proofs.of_bank.entry.Goals as goal
 
 pub returns-in-Is : goal.returns-in-Is

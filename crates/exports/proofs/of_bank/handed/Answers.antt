@@ -1,7 +1,6 @@
 -- `exports::of_bank::handed` meets its contract. Assumes nothing.
 use mathlib.Core.Path.{sym, ◌∙◌}
 use Rattle.exports.proofs.Rivals.{done_with, refused_with}
-use borrow.Author.Rules.{rules}
 use Rattle.exports.proofs.of_bank.handed.Goals as goal
 
 pub returns-then-code-eq0 : goal.returns-then-code-eq0

@@ -10,7 +10,6 @@ use Rattle.bank.proofs.Answering.{of_told_law}
 use Rattle.plain.specs.Plain.{bank_of}
 use Rattle.exports.specs.Bank.{challenged}
 use Rattle.exports.proofs.Rivals.{told_by, told_not}
-use borrow.Author.Rules.{rules}
 use Rattle.exports.proofs.of_bank.hullathan_bank_challenger.Goals as goal
 
 pub returns-then-u : goal.returns-then-u

@@ -6,7 +6,6 @@ use Rattle.bank.specs.declared.TimingBank.{TimingBank}
 use Rattle.bank.specs.View.{view}
 use Rattle.bank.specs.Answers.{clear_refusal}
 use Rattle.exports.proofs.Rivals.{answered_by, answers_not}
-use borrow.Author.Rules.{rules}
 use Rattle.exports.proofs.of_bank.hullathan_bank_clear.Goals as goal
 
 pub returns-then-u : goal.returns-then-u

@@ -5,7 +5,6 @@ use Prim.Native.Nat.{ℕ, ◌+◌}
 use Rattle.tracker.specs.Answers.{count, unless}
 use Rattle.exports.specs.Bank.{tallied}
 use Rattle.exports.proofs.Rivals.{told_by, told_not}
-use borrow.Author.Rules.{rules}
 use Rattle.exports.proofs.of_bank.hullathan_bank_hypotheses.Goals as goal
 
 pub returns-then-u : goal.returns-then-u

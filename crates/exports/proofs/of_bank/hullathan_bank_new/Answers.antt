@@ -1,6 +1,5 @@
 -- `exports::of_bank::hullathan_bank_new` hands on what the call says. Assumes nothing.
 use Rattle.exports.proofs.Rivals.{started}
-use borrow.Author.Rules.{rules}
 use Rattle.exports.proofs.of_bank.hullathan_bank_new.Goals as goal
 
 pub returns : goal.returns

@@ -8,7 +8,6 @@ use Rattle.bank.specs.Answers.{showing}
 use Rattle.plain.specs.Plain.{bank_of}
 use Rattle.exports.specs.Bank.{logged}
 use Rattle.exports.proofs.Rivals.{told_by, told_not}
-use borrow.Author.Rules.{rules}
 use Rattle.exports.proofs.of_bank.hullathan_bank_switch_record.Goals as goal
 
 pub returns-then-u : goal.returns-then-u

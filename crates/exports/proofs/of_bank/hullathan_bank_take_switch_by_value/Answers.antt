@@ -7,7 +7,6 @@ use Rattle.bank.specs.declared.TimingBank.{TimingBank}
 use Rattle.bank.specs.View.{view}
 use Rattle.bank.specs.Answers.{switch_refusal}
 use Rattle.exports.proofs.Rivals.{switched_by, switches_not}
-use borrow.Author.Rules.{rules}
 use Rattle.exports.proofs.of_bank.hullathan_bank_take_switch_by_value.Goals as goal
 
 pub returns-then-u : goal.returns-then-u

@@ -2,7 +2,6 @@
 use mathlib.Core.Path.{ap}
 use mathlib.Core.Bool.{false}
 use Rattle.exports.proofs.Rivals.{a_challenger}
-use borrow.Author.Rules.{rules}
 use Rattle.exports.proofs.of_bank.no_challenger.Goals as goal
 
 pub returns : goal.returns

@@ -1,5 +1,4 @@
 -- `exports::of_bank::switched` meets its contract. Assumes nothing.
-use borrow.Author.Rules.{rules}
 use Rattle.exports.proofs.of_bank.switched.Goals as goal
 
 pub returns : goal.returns

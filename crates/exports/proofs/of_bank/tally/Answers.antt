@@ -3,7 +3,6 @@ use mathlib.Core.Path.{ap, sym}
 use Rattle.bank.specs.declared.Tally.{Tally}
 use Rattle.bank.specs.Answers.{of_tally}
 use Rattle.exports.specs.Bank.{tallied}
-use borrow.Author.Rules.{rules}
 use Rattle.exports.proofs.of_bank.tally.Goals as goal
 
 pub returns-in-Is : goal.returns-in-Is

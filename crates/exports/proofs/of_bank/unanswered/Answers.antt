@@ -1,5 +1,4 @@
 -- `exports::of_bank::unanswered` meets its contract. Assumes nothing.
-use borrow.Author.Rules.{rules}
 use Rattle.plain_tracker.proofs.Carrying.{filled}
 use Rattle.exports.proofs.Rivals.{barred_with}
 use Rattle.exports.proofs.of_bank.unanswered.Goals as goal

@@ -1,5 +1,4 @@
 -- `exports::of_lent::lent_answer` meets its contract. Assumes nothing.
-use borrow.Author.Rules.{rules}
 use Rattle.exports.proofs.of_lent.lent_answer.Goals as goal
 
 pub returns : goal.returns

@@ -1,6 +1,5 @@
 -- `exports::of_lent::read_as` meets its contract. Assumes nothing.
 use mathlib.Core.Path.{refl, sym, ◌∙◌}
-use borrow.Author.Rules.{rules}
 use Rattle.exports.proofs.Lending.{read_none, read_one}
 use Rattle.exports.proofs.of_lent.read_as.Goals as goal
 

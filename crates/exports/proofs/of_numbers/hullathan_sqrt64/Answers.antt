@@ -2,7 +2,6 @@
 use Rattle.exports.proofs.Answers.{done, declined}
 use mathlib.Core.Path.{sym, ap, ◌∙◌}
 use Rattle.numbers.specs.Answers.{said64}
-use borrow.Author.Rules.{rules}
 use Rattle.exports.proofs.of_numbers.hullathan_sqrt64.Goals as goal
 
 pub returns-in-Is : goal.returns-in-Is

@@ -4,7 +4,6 @@ use mathlib.Core.Path.{sym, ap}
 use Rattle.sender.specs.declared.Estimate.{Estimate}
 use Rattle.sender.specs.Model.{view_estimate}
 use Rattle.exports.specs.Sender.{plain_class}
-use borrow.Author.Rules.{rules}
 use Rattle.exports.proofs.of_sender.class_stats.Goals as goal
 
 pub returns-in-Is : goal.returns-in-Is

@@ -3,7 +3,6 @@ use mathlib.Core.Path.{sym, ap}
 use Rattle.sender.specs.declared.Yes.{Yes}
 use Rattle.sender.specs.Answers.{of_yes}
 use Rattle.exports.specs.Sender.{flagged}
-use borrow.Author.Rules.{rules}
 use Rattle.exports.proofs.of_sender.flag.Goals as goal
 
 pub returns-in-Is : goal.returns-in-Is

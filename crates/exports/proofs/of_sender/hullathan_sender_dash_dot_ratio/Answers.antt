@@ -1,7 +1,6 @@
 -- `exports::of_sender::hullathan_sender_dash_dot_ratio` hands on what the call says. Assumes nothing.
 use mathlib.Core.Path.{ap, ◌∙◌}
 use Rattle.exports.specs.Sender.{numbered}
-use borrow.Author.Rules.{rules}
 use Rattle.exports.proofs.of_sender.hullathan_sender_dash_dot_ratio.Goals as goal
 
 pub returns : goal.returns

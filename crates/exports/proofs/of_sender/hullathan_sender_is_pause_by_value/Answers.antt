@@ -1,7 +1,6 @@
 -- `exports::of_sender::hullathan_sender_is_pause_by_value` hands on what the call says. Assumes nothing.
 use mathlib.Core.Path.{ap, ◌∙◌}
 use Rattle.exports.specs.Sender.{flagged}
-use borrow.Author.Rules.{rules}
 use Rattle.exports.proofs.of_sender.hullathan_sender_is_pause_by_value.Goals as goal
 
 pub returns : goal.returns

@@ -4,9 +4,7 @@ use mathlib.Core.Path.{sym, ap, ◌∙◌}
 use mathlib.Core.Option.{Option}
 use Rattle.sender.specs.declared.TimingClass.{TimingClass}
 use Rattle.sender.specs.Model.{view}
-use Rattle.exports.specs.declared.of_sender.Named.{Named}
 use Rattle.exports.specs.Sender.{numbered, mean_at, of_named}
-use borrow.Author.Rules.{rules}
 use Rattle.exports.proofs.of_sender.hullathan_sender_mean_dits.Goals as goal
 
 pub returns-in-Is : goal.returns-in-Is

@@ -4,7 +4,6 @@ use mathlib.Core.Option.{Option}
 use Rattle.sender.specs.declared.TimingClass.{TimingClass}
 use Rattle.sender.specs.Model.{view}
 use Rattle.exports.specs.Sender.{code, observe_said, LeftAt, of_named}
-use borrow.Author.Rules.{rules}
 use Rattle.exports.proofs.of_sender.hullathan_sender_observe_by_value.Goals as goal
 
 pub returns-in-Is : goal.returns-in-Is

@@ -1,7 +1,6 @@
 -- `exports::of_sender::hullathan_sender_word_dits` hands on what the call says. Assumes nothing.
 use mathlib.Core.Path.{ap, ◌∙◌}
 use Rattle.exports.specs.Sender.{numbered}
-use borrow.Author.Rules.{rules}
 use Rattle.exports.proofs.of_sender.hullathan_sender_word_dits.Goals as goal
 
 pub returns : goal.returns

@@ -4,7 +4,6 @@ use mathlib.Core.Path.{sym, ap}
 use Rattle.sender.specs.declared.Length.{Length}
 use Rattle.sender.specs.Answers.{of_length}
 use Rattle.exports.specs.Sender.{numbered}
-use borrow.Author.Rules.{rules}
 use Rattle.exports.proofs.of_sender.length.Goals as goal
 
 pub returns-in-Is : goal.returns-in-Is

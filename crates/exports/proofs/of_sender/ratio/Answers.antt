@@ -4,7 +4,6 @@ use mathlib.Core.Path.{sym, ap}
 use Rattle.sender.specs.declared.Ratio.{Ratio}
 use Rattle.sender.specs.Answers.{of_ratio}
 use Rattle.exports.specs.Sender.{numbered}
-use borrow.Author.Rules.{rules}
 use Rattle.exports.proofs.of_sender.ratio.Goals as goal
 
 pub returns-in-Is : goal.returns-in-Is

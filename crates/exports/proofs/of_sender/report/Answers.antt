@@ -6,7 +6,6 @@ use Rattle.sender.specs.declared.Report.{Report}
 use Rattle.sender.specs.Answers.{of_report}
 use Rattle.exports.specs.Sender.{reported_as}
 use Rattle.exports.proofs.Classes.{same_report, refused_report}
-use borrow.Author.Rules.{rules}
 use Rattle.exports.proofs.of_sender.report.Goals as goal
 
 pub returns-in-Is : goal.returns-in-Is

@@ -2,7 +2,6 @@
 use mathlib.Core.Path.{ap, ◌∙◌}
 use Rattle.exports.specs.Tracker.{code, yes}
 use Rattle.exports.proofs.Handing.{handed}
-use borrow.Author.Rules.{rules}
 use Rattle.exports.proofs.of_tracker.hullathan_tracker_take_badlock_recovered.Statement.{
   statement,
 }

@@ -3,7 +3,6 @@ use mathlib.Core.Path.{sym, ap}
 use Rattle.tracker.specs.declared.Count.{Count}
 use Rattle.tracker.specs.Answers.{of_count}
 use Rattle.exports.specs.Tracker.{counted}
-use borrow.Author.Rules.{rules}
 use Rattle.exports.proofs.of_tracker.plain_count.Goals as goal
 
 pub returns-in-Is : goal.returns-in-Is

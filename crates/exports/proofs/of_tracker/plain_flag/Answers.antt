@@ -3,7 +3,6 @@ use mathlib.Core.Path.{sym, ap}
 use Rattle.tracker.specs.declared.Flag.{Flag}
 use Rattle.tracker.specs.Answers.{of_flag}
 use Rattle.exports.specs.Tracker.{flagged}
-use borrow.Author.Rules.{rules}
 use Rattle.exports.proofs.of_tracker.plain_flag.Goals as goal
 
 pub returns-in-Is : goal.returns-in-Is

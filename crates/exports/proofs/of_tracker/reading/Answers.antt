@@ -4,7 +4,6 @@ use mathlib.Core.Path.{sym, ap}
 use Rattle.tracker.specs.declared.Reading.{Reading}
 use Rattle.tracker.specs.Answers.{of_reading}
 use Rattle.exports.specs.Tracker.{numbered}
-use borrow.Author.Rules.{rules}
 use Rattle.exports.proofs.of_tracker.reading.Goals as goal
 
 pub returns-in-Is : goal.returns-in-Is

@@ -5,11 +5,9 @@ use Rattle.station.specs.declared.inner.pace.Way.{Way}
 use Rattle.station.specs.Pace.{Leads}
 use Rattle.hullathan.specs.Parts.{of_asked}
 use Rattle.hullathan.proofs.Calling.{next_fits, next_told, none_told}
-use Prim.Native.Nat.{◌-◌}
 use borrow.Author.Rules.{rules}
 use Rattle.marks.proofs.Shifting.{unmapped}
-use Rattle.station.specs.Parts.{Steady}
-use Rattle.hullathan.proofs.Running.{Running, place_fits, run_begins, run_turns, run_ends}
+use Rattle.hullathan.proofs.Running.{place_fits, run_begins, run_turns, run_ends}
 use Rattle.hullathan.proofs.batch.along.Goals as goal
 
 pub loop-i-init : goal.loop-i-init

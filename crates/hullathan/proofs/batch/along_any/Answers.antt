@@ -1,8 +1,7 @@
 -- `hullathan::batch::along_any` meets its contract. Assumes nothing.
-use Prim.Native.Nat.{◌-◌}
 use borrow.Author.Rules.{rules}
 use Rattle.marks.proofs.Shifting.{unmapped}
-use Rattle.hullathan.proofs.Running.{Running, run_begins, run_turns, run_ends}
+use Rattle.hullathan.proofs.Running.{run_begins, run_turns, run_ends}
 use Rattle.hullathan.proofs.batch.along_any.Goals as goal
 
 pub loop-i-init : goal.loop-i-init

@@ -1,8 +1,6 @@
 -- `hullathan::batch::along_any` meets its contract. Assumes nothing.
 use Prim.Native.Nat.{◌-◌}
-use borrow.Author.Rules.{rules}
-use Rattle.marks.proofs.Shifting.{unmapped}
-use Rattle.hullathan.proofs.Running.{Running, run_begins, run_turns, run_ends}
+use Rattle.hullathan.proofs.Running.{Running}
 use Rattle.hullathan.proofs.batch.along_any.Given as goal
 
 abbrev pub invariant-loop-i : goal.invariant-loop-i

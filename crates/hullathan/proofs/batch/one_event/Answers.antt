@@ -1,6 +1,5 @@
 -- `hullathan::batch::one_event` meets its contract. Assumes nothing.
 use Rattle.hullathan.proofs.Calling.{told_as_law}
-use borrow.Author.Rules.{rules}
 use Rattle.hullathan.proofs.batch.one_event.Goals as goal
 
 pub returns : goal.returns

@@ -2,7 +2,6 @@
 use mathlib.Core.Path.{sym, ◌∙◌}
 use Rattle.hullathan.proofs.Forms.{good_is}
 use Rattle.hullathan.proofs.Running.{runs_good, runs_not, not_sound, not_few}
-use borrow.Author.Rules.{rules}
 use Rattle.hullathan.proofs.batch.ran.Goals as goal
 
 pub run_on-requires : goal.run_on-requires

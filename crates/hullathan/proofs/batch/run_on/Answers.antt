@@ -1,6 +1,5 @@
 -- `hullathan::batch::run_on` meets its contract. Assumes nothing.
 use Rattle.hullathan.proofs.Asking.{steady_of}
-use borrow.Author.Rules.{rules}
 use Rattle.hullathan.proofs.batch.run_on.Goals as goal
 
 pub along-requires : goal.along-requires

@@ -2,7 +2,6 @@
 use mathlib.Core.Path.{sym, ◌∙◌}
 use Rattle.hullathan.proofs.Calling.{answers_on, answers_not}
 use Rattle.hullathan.proofs.Forms.{good_is}
-use borrow.Author.Rules.{rules}
 use Rattle.hullathan.proofs.call.called.Goals as goal
 
 pub heard-requires : goal.heard-requires

@@ -1,6 +1,5 @@
 -- `hullathan::call::heard` meets its contract. Assumes nothing.
-use Rattle.hullathan.proofs.Calling.{turn_fits, turn_handed}
-use borrow.Author.Rules.{rules}
+use Rattle.hullathan.proofs.Calling.{turn_handed}
 use Rattle.hullathan.proofs.call.heard.Goals as goal
 
 pub returns : goal.returns

@@ -1,6 +1,5 @@
 -- `hullathan::call::left_at` meets its contract. Assumes nothing.
 use mathlib.Core.Path.{sym, ◌∙◌}
-use borrow.Author.Rules.{rules}
 use Rattle.hullathan.proofs.call.left_at.Goals as goal
 
 pub returns-then-is_taken : goal.returns-then-is_taken

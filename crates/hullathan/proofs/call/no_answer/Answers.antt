@@ -6,7 +6,6 @@ use Rattle.ranges.specs.Limits.{nought}
 use Rattle.plain_tracker.specs.Plain.{zeros}
 use Rattle.plain.specs.declared.PlainDeparture.{PlainDeparture}
 use Rattle.hullathan.specs.Host.{padded}
-use borrow.Author.Rules.{rules}
 use Rattle.hullathan.proofs.call.no_answer.Goals as goal
 
 pub returns : goal.returns

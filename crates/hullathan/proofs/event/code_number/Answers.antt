@@ -2,8 +2,6 @@
 use mathlib.Core.Path.{sym, ap}
 use Rattle.hullathan.specs.Host.{code_number}
 use Rattle.hullathan.proofs.Asking.{code_fits}
-use native.Mathlib.Omega.{arith}
-use borrow.Author.Rules.{rules}
 use Rattle.hullathan.proofs.event.code_number.Goals as goal
 
 pub overflow_add-result : goal.overflow_add-result

@@ -6,7 +6,6 @@ use mathlib.Core.Path.{sym, ap, ◌∙◌}
 use Prim.Native.Nat.{ℕ}
 use Rattle.hullathan.specs.Host.{event_of}
 use Rattle.hullathan.proofs.Asking.{no_event}
-use borrow.Author.Rules.{rules}
 use Rattle.hullathan.proofs.event.event_of.Goals as goal
 
 pub returns-in-0 : goal.returns-in-0

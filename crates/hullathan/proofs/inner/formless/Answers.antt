@@ -1,6 +1,5 @@
 -- `hullathan::inner::formless` meets its contract. Assumes nothing.
 use mathlib.Core.Path.{sym, ◌∙◌}
-use borrow.Author.Rules.{rules}
 use Rattle.hullathan.proofs.inner.formless.Goals as goal
 
 pub returns-then-is_full : goal.returns-then-is_full

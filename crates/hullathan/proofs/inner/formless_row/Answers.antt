@@ -2,7 +2,6 @@
 use mathlib.Core.Path.{ap, ◌∙◌}
 use Rattle.hullathan.specs.Host.{row_of}
 use Rattle.hullathan.proofs.Asking.{turns_none}
-use borrow.Author.Rules.{rules}
 use Rattle.hullathan.proofs.inner.formless_row.Goals as goal
 
 pub row-requires : goal.row-requires

@@ -1,7 +1,6 @@
 -- `hullathan::inner::is_good` meets its contract. Assumes nothing.
 use mathlib.Core.Path.{sym, ◌∙◌}
 use mathlib.Core.Bool.{false≢true}
-use borrow.Author.Rules.{rules}
 use Rattle.hullathan.proofs.inner.is_good.Goals as goal
 
 pub returns-then-is_station : goal.returns-then-is_station

@@ -1,7 +1,6 @@
 -- `hullathan::inner::row` meets its contract. Assumes nothing.
 use mathlib.Core.Path.{refl}
 use Rattle.hullathan.proofs.Rows.{row_is}
-use borrow.Author.Rules.{rules}
 use Rattle.hullathan.proofs.inner.row.Goals as goal
 
 pub returns : goal.returns

@@ -4,7 +4,6 @@ use mathlib.Core.Option.{Option}
 use Rattle.station_model.specs.declared.Event.{Event}
 use Rattle.hullathan.specs.Parts.{Turns, of_asked}
 use Rattle.hullathan.proofs.Asking.{turns_call, turns_none}
-use borrow.Author.Rules.{rules}
 use Rattle.hullathan.proofs.inner.turn.Goals as goal
 
 pub returns-in-Is : goal.returns-in-Is

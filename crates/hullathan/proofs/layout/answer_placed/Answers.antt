@@ -1,6 +1,5 @@
 -- `hullathan::layout::answer_placed` meets its contract. Assumes nothing.
 use Rattle.hullathan.specs.Layout.{ending}
-use borrow.Author.Rules.{rules}
 use Rattle.hullathan.proofs.layout.answer_placed.Goals as goal
 
 pub returns : goal.returns

@@ -1,7 +1,6 @@
 -- `hullathan::layout::bytes_4` meets its contract. Assumes nothing.
 use mathlib.Core.Path.{refl}
 use Rattle.hullathan.specs.Layout.{bytes}
-use borrow.Author.Rules.{rules}
 use Rattle.hullathan.proofs.layout.bytes_4.Goals as goal
 
 pub returns : goal.returns

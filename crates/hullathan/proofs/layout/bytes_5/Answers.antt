@@ -1,7 +1,6 @@
 -- `hullathan::layout::bytes_5` meets its contract. Assumes nothing.
 use mathlib.Core.Path.{refl}
 use Rattle.hullathan.specs.Layout.{bytes}
-use borrow.Author.Rules.{rules}
 use Rattle.hullathan.proofs.layout.bytes_5.Goals as goal
 
 pub returns : goal.returns

@@ -1,6 +1,5 @@
 -- `hullathan::layout::crew_placed` meets its contract. Assumes nothing.
 use Rattle.hullathan.specs.Layout.{ending}
-use borrow.Author.Rules.{rules}
 use Rattle.hullathan.proofs.layout.crew_placed.Goals as goal
 
 pub returns : goal.returns

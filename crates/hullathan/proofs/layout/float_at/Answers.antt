@@ -3,7 +3,6 @@ use Prim.Native.Nat.{ℕ, ◌*◌, ◌≤◌}
 use native.Mathlib.Omega.{arith}
 use lib.Ieee.{binary32, hid, ones}
 use Rattle.numbers.proofs.Plain.{number_bits}
-use borrow.Author.Rules.{rules}
 use Rattle.hullathan.proofs.layout.float_at.Goals as goal
 
 small : (n : ℕ) → n ≤ 200 → n ≤ ones binary32 * hid binary32

@@ -1,6 +1,5 @@
 -- `hullathan::layout::floats_4` meets its contract. Assumes nothing.
 use Rattle.hullathan.specs.Layout.{ending}
-use borrow.Author.Rules.{rules}
 use Rattle.hullathan.proofs.layout.floats_4.Goals as goal
 
 pub returns : goal.returns

@@ -1,6 +1,5 @@
 -- `hullathan::layout::hullathan_layout_batch` meets its contract. Assumes nothing.
 use Rattle.hullathan.specs.Layout.{ending}
-use borrow.Author.Rules.{rules}
 use Rattle.hullathan.proofs.layout.hullathan_layout_batch.Goals as goal
 
 pub returns : goal.returns

@@ -1,5 +1,4 @@
 -- `hullathan::layout::hullathan_layout_sender` meets its contract. Assumes nothing.
-use borrow.Author.Rules.{rules}
 use Rattle.hullathan.proofs.layout.hullathan_layout_sender.Goals as goal
 
 pub returns : goal.returns

@@ -1,5 +1,4 @@
 -- `hullathan::layout::hullathan_layout_sender_reading` meets its contract. Assumes nothing.
-use borrow.Author.Rules.{rules}
 use Rattle.hullathan.proofs.layout.hullathan_layout_sender_reading.Goals as goal
 
 pub returns : goal.returns

@@ -1,5 +1,4 @@
 -- `hullathan::layout::stats_placed` meets its contract. Assumes nothing.
-use borrow.Author.Rules.{rules}
 use Rattle.hullathan.proofs.layout.stats_placed.Goals as goal
 
 pub returns : goal.returns

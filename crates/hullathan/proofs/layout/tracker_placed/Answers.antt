@@ -1,6 +1,5 @@
 -- `hullathan::layout::tracker_placed` meets its contract. Assumes nothing.
 use Rattle.hullathan.specs.Layout.{ending}
-use borrow.Author.Rules.{rules}
 use Rattle.hullathan.proofs.layout.tracker_placed.Goals as goal
 
 pub returns : goal.returns

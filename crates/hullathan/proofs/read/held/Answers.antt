@@ -1,6 +1,5 @@
 -- `hullathan::read::held` meets its contract. Assumes nothing.
 use lib.Ieee.{of_bits}
-use borrow.Author.Rules.{rules}
 use Rattle.hullathan.proofs.read.held.Goals as goal
 
 pub returns-else-has : goal.returns-else-has

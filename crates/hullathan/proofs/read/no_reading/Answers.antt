@@ -1,5 +1,4 @@
 -- `hullathan::read::no_reading` meets its contract. Assumes nothing.
-use mathlib.Core.Path.{ap}
 use mathlib.Core.List.{List, [], ◌∷◌}
 use lib.Ieee.{of_bits}
 use Rattle.ranges.specs.Limits.{nought}
@@ -8,7 +7,6 @@ use Rattle.plain.specs.declared.PlainRecord.{PlainRecord}
 use Rattle.hullathan.specs.declared.PlainRival.{PlainRival}
 use Rattle.hullathan.specs.declared.PlainReading.{PlainReading}
 use Rattle.hullathan.specs.Host.{padded}
-use borrow.Author.Rules.{rules}
 use Rattle.hullathan.proofs.read.no_reading.Goals as goal
 
 abbrev with_lists : List PlainRival → List PlainRecord → PlainReading

@@ -1,6 +1,5 @@
 -- `hullathan::read::read_of` meets its contract. Assumes nothing.
 use Rattle.hullathan.proofs.Reading.{reading_is}
-use borrow.Author.Rules.{rules}
 use Rattle.hullathan.proofs.read.read_of.Goals as goal
 
 pub returns : goal.returns

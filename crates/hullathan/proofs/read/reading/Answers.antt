@@ -4,7 +4,6 @@ use Rattle.station.specs.declared.Station.{Station}
 use Rattle.station.specs.View.{view}
 use Rattle.hullathan.specs.Host.{reading_of}
 use Rattle.hullathan.proofs.Forms.{good_is}
-use borrow.Author.Rules.{rules}
 use Rattle.hullathan.proofs.read.reading.Goals as goal
 
 pub read_of-requires : goal.read_of-requires

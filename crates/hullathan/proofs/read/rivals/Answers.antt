@@ -1,8 +1,6 @@
 -- `hullathan::read::rivals` meets its contract. Assumes nothing.
 use mathlib.Core.Path.{◌∙◌}
-use Prim.Native.Nat.{◌-◌, ◌≤◌}
-use borrow.Author.Rules.{rules}
-use Rattle.plain_tracker.proofs.Carrying.{Carrying, filled, carry_begins, carry_turns, carry_ends}
+use Rattle.plain_tracker.proofs.Carrying.{filled, carry_begins, carry_turns, carry_ends}
 use Rattle.hullathan.specs.Host.{no_rival}
 use Rattle.hullathan.proofs.Rows.{rival_in, rivals_shown}
 use Rattle.hullathan.proofs.read.rivals.Goals as goal

@@ -1,10 +1,8 @@
 -- `hullathan::read::rivals` meets its contract. Assumes nothing.
-use mathlib.Core.Path.{◌∙◌}
 use Prim.Native.Nat.{◌-◌, ◌≤◌}
-use borrow.Author.Rules.{rules}
-use Rattle.plain_tracker.proofs.Carrying.{Carrying, filled, carry_begins, carry_turns, carry_ends}
+use Rattle.plain_tracker.proofs.Carrying.{Carrying}
 use Rattle.hullathan.specs.Host.{no_rival}
-use Rattle.hullathan.proofs.Rows.{rival_in, rivals_shown}
+use Rattle.hullathan.proofs.Rows.{rival_in}
 use Rattle.hullathan.proofs.read.rivals.Given as goal
 
 abbrev pub invariant-loop-i : goal.invariant-loop-i

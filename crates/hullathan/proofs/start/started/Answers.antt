@@ -1,6 +1,5 @@
 -- `hullathan::start::started` meets its contract. Assumes nothing.
 use Rattle.hullathan.proofs.Starting.{begun}
-use borrow.Author.Rules.{rules}
 use Rattle.hullathan.proofs.start.started.Goals as goal
 
 pub returns : goal.returns

@@ -1,6 +1,5 @@
 -- `line_in::entries::flagged` meets its contract. Assumes nothing.
 use mathlib.Core.Path.{sym}
-use borrow.Author.Rules.{rules}
 use Rattle.line_in.proofs.entries.flagged.Goals as goal
 
 pub returns-in-Off : goal.returns-in-Off

@@ -8,7 +8,6 @@ use Rattle.line_in.specs.declared.values.Number.TheVariants.{Whole}
 use Rattle.line_in.specs.Form.{flag, flagged}
 use Rattle.line_in.proofs.Parting.{field_within}
 use Rattle.line_in.proofs.Forms.{second, unnumbered, numbered_last, numbered_more}
-use borrow.Author.Rules.{rules}
 use Rattle.line_in.proofs.entries.numbered.Goals as goal
 
 pub slice_bounds-number_of-end : goal.slice_bounds-number_of-end

@@ -2,7 +2,6 @@
 use mathlib.Core.Path.{refl}
 use Rattle.line_in.specs.Form.{sixty_fourths}
 use Rattle.line_in.proofs.Exact.{sixty_four}
-use borrow.Author.Rules.{rules}
 use Rattle.line_in.proofs.entries.ratio.Goals as goal
 
 pub returns : goal.returns

@@ -1,6 +1,5 @@
 -- `line_in::entries::three` meets its contract. Assumes nothing.
 use borrow.Author.Tests.{ne_eqb}
-use borrow.Author.Rules.{rules}
 use Rattle.line_in.proofs.entries.three.Goals as goal
 
 pub returns-in-87 : goal.returns-in-87

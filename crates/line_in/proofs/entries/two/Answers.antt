@@ -1,6 +1,5 @@
 -- `line_in::entries::two` meets its contract. Assumes nothing.
 use borrow.Author.Tests.{ne_eqb}
-use borrow.Author.Rules.{rules}
 use Rattle.line_in.proofs.entries.two.Goals as goal
 
 pub returns-in-71 : goal.returns-in-71

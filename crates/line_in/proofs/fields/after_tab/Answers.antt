@@ -1,7 +1,6 @@
 -- `line_in::fields::after_tab` meets its contract. Assumes nothing.
 use native.Mathlib.Omega.{arith}
 use Rattle.line_in.proofs.Parting.{field_within, handed, nothing_handed}
-use borrow.Author.Rules.{rules}
 use Rattle.line_in.proofs.fields.after_tab.Goals as goal
 
 pub returns-then-n-line : goal.returns-then-n-line

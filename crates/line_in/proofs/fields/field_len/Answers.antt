@@ -1,8 +1,6 @@
 -- `line_in::fields::field_len` meets its contract: no tab stands before the place that is looked at. Assumes nothing.
-use Prim.Native.Nat.{◌-◌}
 use native.Mathlib.Omega.{arith}
-use lib.ListN.{length}
-use Rattle.line_in.proofs.Parting.{Scanned, begin, passed, stopped, ended}
+use Rattle.line_in.proofs.Parting.{begin, passed, stopped, ended}
 use Rattle.line_in.proofs.fields.field_len.Goals as goal
 
 pub loop-i-init : goal.loop-i-init

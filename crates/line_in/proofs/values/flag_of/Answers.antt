@@ -1,7 +1,6 @@
 -- `line_in::values::flag_of` meets its contract. Assumes nothing.
 use mathlib.Core.Path.{sym}
 use Rattle.line_in.proofs.Letters.{off, on, neither, unflagged}
-use borrow.Author.Rules.{rules}
 use Rattle.line_in.proofs.values.flag_of.Goals as goal
 
 pub returns-then-field-ne1 : goal.returns-then-field-ne1

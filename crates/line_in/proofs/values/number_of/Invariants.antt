@@ -1,9 +1,7 @@
 -- `line_in::values::number_of` meets its contract. The first i digits are read, and make n. Assumes nothing.
-use mathlib.Core.Path.{sym}
 use Prim.Native.Nat.{◌-◌}
-use native.Mathlib.Omega.{arith}
 use lib.ListN.{length}
-use Rattle.line_in.proofs.Numbers.{Read, begin, next, room, empty, long, below, above, ended}
+use Rattle.line_in.proofs.Numbers.{Read}
 use Rattle.line_in.proofs.values.number_of.Given as goal
 
 abbrev pub invariant-loop-i : goal.invariant-loop-i

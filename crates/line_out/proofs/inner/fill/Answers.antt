@@ -1,8 +1,7 @@
 -- `line_out::inner::fill` meets its contract. Assumes nothing.
 use native.Mathlib.Nat.{mod-lt}
 use native.Mathlib.Omega.{arith}
-use borrow.Author.Rules.{rules}
-use Rattle.line_out.proofs.Filling.{Filling, begins, turned, ended}
+use Rattle.line_out.proofs.Filling.{begins, turned, ended}
 use Rattle.line_out.proofs.inner.fill.Goals as goal
 
 pub loop-i-init : goal.loop-i-init

@@ -1,8 +1,5 @@
 -- `line_out::inner::fill_word` meets its contract. Assumes nothing.
-use native.Mathlib.Nat.{mod-lt}
-use native.Mathlib.Omega.{arith}
-use borrow.Author.Rules.{rules}
-use Rattle.line_out.proofs.Filling.{Filling, begins, turned, ended}
+use Rattle.line_out.proofs.Filling.{Filling}
 use Rattle.line_out.proofs.inner.fill_word.Given as goal
 
 abbrev pub invariant-loop-i : goal.invariant-loop-i

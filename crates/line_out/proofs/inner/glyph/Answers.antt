@@ -1,6 +1,5 @@
 -- `line_out::inner::glyph` meets its contract. Assumes nothing.
 use native.Mathlib.Omega.{arith}
-use borrow.Author.Rules.{rules}
 use borrow.Author.Tests.{lt-ltb, le-ltb}
 use Rattle.line_out.proofs.inner.glyph.Goals as goal
 

@@ -1,6 +1,5 @@
 -- `line_out::inner::put_byte` meets its contract. Assumes nothing.
 use mathlib.Core.Path.{refl}
-use borrow.Author.Rules.{rules}
 use Rattle.line_out.proofs.Pasting.{written_one}
 use Rattle.line_out.proofs.inner.put_byte.Goals as goal
 

@@ -1,7 +1,6 @@
 -- `line_out::inner::put_code` meets its contract. Assumes nothing.
 use mathlib.Core.Path.{◌∙◌, sym}
 use native.Mathlib.Omega.{arith}
-use borrow.Author.Rules.{rules}
 use Rattle.line_out.proofs.Pasting.{put_next}
 use Rattle.line_out.proofs.Digits.{tens_short}
 use Rattle.line_out.proofs.Lining.{coded_taken, coded_refused}

@@ -1,7 +1,6 @@
 -- `line_out::inner::put_digits` meets its contract. Assumes nothing.
 use Prim.Native.Nat.{◌+◌}
 use mathlib.Core.Path.{◌∙◌, sym, ap}
-use borrow.Author.Rules.{rules}
 use Rattle.line_out.specs.Shown.{digits}
 use Rattle.line_out.specs.Written.{written}
 use Rattle.line_out.proofs.Digits.{tens_digits}

@@ -1,6 +1,5 @@
 -- `line_out::inner::put_number` meets its contract. Assumes nothing.
 use native.Mathlib.Omega.{arith}
-use borrow.Author.Rules.{rules}
 use Rattle.line_out.proofs.Pasting.{put_next}
 use Rattle.line_out.proofs.inner.put_number.Goals as goal
 

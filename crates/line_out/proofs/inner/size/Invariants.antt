@@ -1,8 +1,5 @@
 -- `line_out::inner::size` meets its contract. Assumes nothing.
-use native.Mathlib.Nat.{div-lt_self}
-use native.Mathlib.Omega.{arith}
-use borrow.Author.Rules.{rules}
-use Rattle.line_out.proofs.Sizing.{Sizing, begins, turned, ended}
+use Rattle.line_out.proofs.Sizing.{Sizing}
 use Rattle.line_out.proofs.inner.size.Given as goal
 
 abbrev pub invariant-loop-rest : goal.invariant-loop-rest

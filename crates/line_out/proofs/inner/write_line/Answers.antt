@@ -1,7 +1,6 @@
 -- `line_out::inner::write_line` meets its contract. Assumes nothing.
 use Prim.Native.Nat.{zero-le}
 use native.Mathlib.Omega.{arith}
-use borrow.Author.Rules.{rules}
 use Rattle.line_out.proofs.Pasting.{put_next}
 use Rattle.line_out.proofs.Lining.{put_whole, lengths}
 use Rattle.line_out.proofs.inner.write_line.Goals as goal

@@ -1,5 +1,5 @@
 -- `numbers::inner::below_positive` meets its contract. Assumes nothing.
-use Rattle.std.proofs.Common.{T, sym, ap, ◌∙◌, subst, rules}
+use Rattle.std.proofs.Common.{T, sym, ap, ◌∙◌, subst}
 use lib.Ieee.{Float, binary32, lt}
 use lib.Ieee.Bits.{of_bits-to_bits}
 use Rattle.numbers.specs.Root.{sqrt_of}

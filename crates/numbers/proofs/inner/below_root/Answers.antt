@@ -1,5 +1,5 @@
 -- `numbers::inner::below_root` meets its contract. Assumes nothing.
-use Rattle.std.proofs.Common.{ap, rules}
+use Rattle.std.proofs.Common.{ap}
 use lib.Ieee.{binary32, lt}
 use Rattle.numbers.proofs.Plain.{top32_is, top32_number, above_number, positive_by, passed}
 use Rattle.numbers.proofs.inner.below_root.Goals as goal

@@ -1,6 +1,6 @@
 -- `numbers::inner::lead_of` meets its contract: `proofs/LnLaws.antt` has what the count of leading zeros gives.
 -- Assumes nothing.
-use Rattle.std.proofs.Common.{◌≡◌, ℕ, ◌+◌, ◌-◌, ◌^◌, ◌<◌, ◌≤◌, arith, rules}
+use Rattle.std.proofs.Common.{ℕ, ◌<◌, ◌≤◌, arith}
 use lib.Count.{count_leading_zeros}
 use Rattle.numbers.proofs.LnLaws.{Counted, zeros, begun}
 use Rattle.numbers.proofs.Plain.{plain, plain_finite}

@@ -1,5 +1,5 @@
 -- `numbers::inner::ln_of` meets its contract. Assumes nothing.
-use Rattle.std.proofs.Common.{◌∙◌, rules}
+use Rattle.std.proofs.Common.{◌∙◌}
 use Rattle.numbers.proofs.inner.ln_of.Goals as goal
 
 pub returns : goal.returns

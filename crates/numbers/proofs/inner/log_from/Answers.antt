@@ -1,6 +1,5 @@
 -- `numbers::inner::log_from` meets its contract. Assumes nothing.
 use Rattle.numbers.proofs.LnLaws.{scaled_over, scaled_under}
-use Rattle.std.proofs.Common.{rules}
 use Rattle.numbers.proofs.inner.log_from.Goals as goal
 
 pub returns-then-hi-ge2499805184 : goal.returns-then-hi-ge2499805184

@@ -1,7 +1,6 @@
 -- `numbers::inner::root64` meets its contract. Assumes nothing.
 use lib.Ieee.{binary64}
 use Rattle.numbers.proofs.Plain.{top64_is, top64_number, positive_by, passed, top_root, zero_root, no_root}
-use Rattle.std.proofs.Common.{rules}
 use Rattle.numbers.proofs.inner.root64.Goals as goal
 
 pub float_from_bits-t-3 : goal.float_from_bits-t-3

@@ -1,5 +1,5 @@
 -- `numbers::log::one_digit` meets its contract: `proofs/LogLaws.antt` has the bit and the next number. Assumes nothing.
-use Rattle.std.proofs.Common.{ℕ, ◌+◌, ◌*◌, ◌/◌, ◌^◌, ap, arith, rules}
+use Rattle.std.proofs.Common.{ℕ, ◌+◌, ◌*◌, ◌/◌, ◌^◌, ap, arith}
 use Rattle.numbers.specs.Log.{squared}
 use Rattle.numbers.proofs.LogLaws.{square_fits, one_is, one_le, few}
 use Rattle.numbers.proofs.log.one_digit.Goals as goal

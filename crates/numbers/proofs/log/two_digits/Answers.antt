@@ -1,6 +1,6 @@
 -- `numbers::log::two_digits` meets its contract: `proofs/LogLaws.antt` has the invariant. Assumes nothing.
-use Rattle.std.proofs.Common.{◌-◌, arith}
-use Rattle.numbers.proofs.LogLaws.{Good, begin, fits, again, ended}
+use Rattle.std.proofs.Common.{arith}
+use Rattle.numbers.proofs.LogLaws.{begin, fits, again, ended}
 use Rattle.numbers.proofs.log.two_digits.Goals as goal
 
 pub loop-n-init : goal.loop-n-init

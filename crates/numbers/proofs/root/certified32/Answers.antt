@@ -1,5 +1,5 @@
 -- `numbers::root::certified32` meets its contract. Assumes nothing.
-use Rattle.std.proofs.Common.{sym, ◌∙◌, rules, le-ltb, lt-ltb}
+use Rattle.std.proofs.Common.{sym, ◌∙◌, le-ltb, lt-ltb}
 use Rattle.numbers.proofs.root.certified32.Goals as goal
 
 pub returns-then-c-le8388608 : goal.returns-then-c-le8388608

@@ -1,5 +1,5 @@
 -- `numbers::root::corrected64` meets its contract. Assumes nothing.
-use Rattle.std.proofs.Common.{◌^◌, rules, le-ltb, lt-ltb}
+use Rattle.std.proofs.Common.{◌^◌, le-ltb, lt-ltb}
 use Rattle.numbers.proofs.Estimates.{up_fits, down_fits}
 use Rattle.numbers.proofs.root.corrected64.Goals as goal
 

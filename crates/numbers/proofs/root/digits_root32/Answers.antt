@@ -1,5 +1,5 @@
 -- `numbers::root::digits_root32` meets its contract: `proofs/RootLaws.antt` has the rounding. Assumes nothing.
-use Rattle.std.proofs.Common.{T, sym, subst, rules}
+use Rattle.std.proofs.Common.{T, sym, subst}
 use lib.Ieee.{binary32, fits}
 use Rattle.numbers.proofs.Plain.{plain, plain_finite, plain_widens}
 use Rattle.numbers.proofs.RootLaws.{root_fits, root32}

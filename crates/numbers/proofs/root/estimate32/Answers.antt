@@ -1,5 +1,5 @@
 -- `numbers::root::estimate32` meets its contract. Assumes nothing.
-use Rattle.std.proofs.Common.{◌/◌, T, sym, ap, ◌∙◌, subst, rules, le-leb}
+use Rattle.std.proofs.Common.{◌/◌, T, sym, ap, ◌∙◌, subst, le-leb}
 use borrow.Author.Tests.{lt-leb}
 use lib.Ieee.{Float, binary32, binary64, fits, to_bits, mul}
 use Rattle.numbers.specs.Estimate.{near_pattern, first_of, half_of}

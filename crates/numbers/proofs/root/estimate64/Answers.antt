@@ -1,5 +1,5 @@
 -- `numbers::root::estimate64` meets its contract. Assumes nothing.
-use Rattle.std.proofs.Common.{◌≡◌, ℕ, ap, ◌∙◌, arith, rules, le-ltb, lt-ltb}
+use Rattle.std.proofs.Common.{◌≡◌, ℕ, ap, ◌∙◌, arith, le-ltb, lt-ltb}
 use lib.Count.{count_leading_zeros}
 use lib.Ieee.{Float, binary64, mul, of_bits}
 use Rattle.numbers.specs.Estimate.{newton_of, first_of, half_of, pattern_of, near_root}

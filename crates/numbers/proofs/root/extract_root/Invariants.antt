@@ -1,8 +1,6 @@
 -- `numbers::root::extract_root` meets its contract. The invariant: after i turns q is the whole part of the root of m's first i pairs of digits, with `rest` left over, and `left` has the digits that are to come.
 -- Assumes nothing.
-use Rattle.std.proofs.Common.{◌≡◌, ℕ, ◌+◌, ◌-◌, ◌*◌, ◌/◌, ◌%◌, ◌^◌, ◌<◌, ◌≤◌, sym, refl, ap, ◌∙◌, subst, ⊎_elim, le_trans, lt_of_lt_of_le, mul_assoc, le_antisymm, mul-one, mul-div_cancel, mul_left_comm, add-one, arith, lit≤, pow_pos, pow_mono}
-use native.Mathlib.Nat.{pow-succ'}
-use Rattle.numbers.proofs.LogLaws.{more}
+use Rattle.std.proofs.Common.{◌≡◌, ℕ, ◌+◌, ◌-◌, ◌*◌, ◌/◌, ◌%◌, ◌^◌, ◌<◌, ◌≤◌}
 use Rattle.numbers.proofs.root.extract_root.Given as goal
 
 abbrev pub Good : ℕ → ℕ → ℕ → ℕ → ℕ → Type 0

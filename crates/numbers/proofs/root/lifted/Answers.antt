@@ -1,6 +1,5 @@
 -- `numbers::root::lifted` meets its contract. Assumes nothing.
 use Rattle.numbers.proofs.Estimates.{lifted_long, lifted_below, lifted_done}
-use Rattle.std.proofs.Common.{rules}
 use Rattle.numbers.proofs.root.lifted.Goals as goal
 
 pub returns-then-x-ge34359738368 : goal.returns-then-x-ge34359738368

@@ -1,5 +1,5 @@
 -- `numbers::root::near_pattern` meets its contract. Assumes nothing.
-use Rattle.std.proofs.Common.{rules, le-ltb, lt-ltb, le-leb}
+use Rattle.std.proofs.Common.{le-ltb, lt-ltb, le-leb}
 use borrow.Author.Tests.{lt-leb}
 use lib.Ieee.{binary64}
 use Rattle.numbers.proofs.Plain.{above_number}

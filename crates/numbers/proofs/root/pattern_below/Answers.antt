@@ -1,5 +1,5 @@
 -- `numbers::root::pattern_below` meets its contract: `proofs/BelowRoot.antt` says what the product decides. Assumes nothing.
-use Rattle.std.proofs.Common.{T, sym, subst, rules}
+use Rattle.std.proofs.Common.{T, sym, subst}
 use lib.Ieee.{binary32, fits}
 use Rattle.numbers.proofs.BelowRoot.{middle_number, below_root}
 use Rattle.numbers.proofs.Plain.{plain, plain_widens}

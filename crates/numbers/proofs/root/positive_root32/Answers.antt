@@ -1,5 +1,5 @@
 -- `numbers::root::positive_root32` meets its contract: what is not below the root, next to what is, is the root. Assumes nothing.
-use Rattle.std.proofs.Common.{◌≡◌, ℕ, suc, ◌-◌, ◌*◌, ◌^◌, ◌<◌, ◌≤◌, T, sym, ap, ◌∙◌, subst, arith, rules}
+use Rattle.std.proofs.Common.{◌≡◌, ℕ, suc, ◌-◌, ◌*◌, ◌^◌, ◌<◌, ◌≤◌, T, sym, ap, ◌∙◌, subst, arith}
 use lib.Ieee.{binary32, fits, of_bits, lt}
 use Rattle.numbers.specs.Root.{sqrt_of}
 use Rattle.numbers.proofs.BelowRoot.{squeezed}

@@ -1,7 +1,6 @@
 -- `numbers::root::positive_root64` meets its contract: `proofs/RootLaws.antt` has the rounding. Assumes nothing.
 use Rattle.numbers.proofs.Plain.{plain, plain_finite}
 use Rattle.numbers.proofs.RootLaws.{root_fits, root64}
-use Rattle.std.proofs.Common.{rules}
 use Rattle.numbers.proofs.root.positive_root64.Goals as goal
 
 pub take_apart-p-requires : goal.take_apart-p-requires

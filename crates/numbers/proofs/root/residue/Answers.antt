@@ -1,6 +1,5 @@
 -- `numbers::root::residue` meets its contract. Assumes nothing.
 use Rattle.numbers.proofs.Estimates.{high_fits, cross_fits, double_fits, low_fits, residue_is}
-use Rattle.std.proofs.Common.{rules}
 use Rattle.numbers.proofs.root.residue.Goals as goal
 
 pub overflow_mul-a : goal.overflow_mul-a

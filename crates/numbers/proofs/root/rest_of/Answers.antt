@@ -1,5 +1,5 @@
 -- `numbers::root::rest_of` meets its contract: `proofs/Estimates.antt` puts the halves together. Assumes nothing.
-use Rattle.std.proofs.Common.{◌≡◌, ℕ, ◌+◌, ◌-◌, ◌*◌, ◌/◌, ◌%◌, ◌^◌, ◌<◌, ◌≤◌, sym, refl, ap, ◌∙◌, le_trans, le_of_eq, arith, rules}
+use Rattle.std.proofs.Common.{◌≡◌, ℕ, ◌+◌, ◌-◌, ◌*◌, ◌%◌, ◌^◌, ◌<◌, ◌≤◌, sym, refl, ap, ◌∙◌, le_trans, le_of_eq, arith}
 use Rattle.numbers.specs.Estimate.{lifted_of}
 use Rattle.numbers.specs.Parts.{Rest}
 use Rattle.numbers.proofs.Estimates.{high_fits, cross_fits, double_fits, low_fits, last, rest_split, found, found_above}

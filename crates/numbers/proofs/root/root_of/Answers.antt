@@ -1,5 +1,5 @@
 -- `numbers::root::root_of` meets its contract: `proofs/RootLaws.antt` has the shift. Assumes nothing.
-use Rattle.std.proofs.Common.{◌≡◌, ℕ, ◌+◌, ◌-◌, ◌*◌, ◌%◌, ◌^◌, ◌<◌, ◌≤◌, Bool, true, false, cond, eqb, sym, ap, ◌∙◌, arith, lit≤, rules}
+use Rattle.std.proofs.Common.{ℕ, ◌+◌, ◌*◌, ◌^◌, ◌≤◌, Bool, true, false, cond, eqb, ap, ◌∙◌, arith, lit≤}
 use Rattle.numbers.proofs.RootLaws.{sh, z_ge, z_le, large, small, shl_is, even}
 use Rattle.numbers.proofs.root.root_of.Goals as goal
 

@@ -1,7 +1,6 @@
 -- `numbers::root::sqrt32` meets its contract. Assumes nothing.
 use lib.Ieee.{binary32}
 use Rattle.numbers.proofs.Plain.{top32_is, top32_number, rooted_by, below_by, beyond_by, said_root, no_said_root}
-use Rattle.std.proofs.Common.{rules}
 use Rattle.numbers.proofs.root.sqrt32.Goals as goal
 
 pub float_from_bits-t-3 : goal.float_from_bits-t-3

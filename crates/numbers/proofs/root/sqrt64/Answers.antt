@@ -1,7 +1,6 @@
 -- `numbers::root::sqrt64` meets its contract. Assumes nothing.
 use lib.Ieee.{binary64}
 use Rattle.numbers.proofs.Plain.{top64_is, top64_number, rooted_by, below_by, beyond_by, said_root, no_said_root}
-use Rattle.std.proofs.Common.{rules}
 use Rattle.numbers.proofs.root.sqrt64.Goals as goal
 
 pub float_from_bits-t-3 : goal.float_from_bits-t-3

@@ -1,5 +1,5 @@
 -- `numbers::rounding::narrow` meets its contract. Assumes nothing.
-use Rattle.std.proofs.Common.{◌≡◌, T, sym, ◌∙◌, subst, pow_pos, rules}
+use Rattle.std.proofs.Common.{T, sym, ◌∙◌, subst, pow_pos}
 use Rattle.numbers.proofs.Reading.{narrow_value, narrow_nan, narrow_below, narrow_over}
 use Rattle.numbers.proofs.rounding.narrow.Goals as goal
 

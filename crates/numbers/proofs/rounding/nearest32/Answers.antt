@@ -1,5 +1,5 @@
 -- `numbers::rounding::nearest32` meets its contract: `proofs/Rounds.antt` says what is dropped and what is kept. Assumes nothing.
-use Rattle.std.proofs.Common.{◌≡◌, ℕ, suc, ◌+◌, ◌-◌, ◌*◌, ◌%◌, ◌^◌, ◌<◌, ◌≤◌, sym, refl, ap, ◌∙◌, inl, le_of_lt, arith, lit≤, rules}
+use Rattle.std.proofs.Common.{◌≡◌, ℕ, suc, ◌+◌, ◌-◌, ◌*◌, ◌%◌, ◌^◌, ◌<◌, ◌≤◌, sym, refl, ◌∙◌, inl, le_of_lt, arith, lit≤}
 use lib.Count.{count_leading_zeros, leading_le}
 use lib.Ieee.{binary32}
 use lib.Ieee.Nearest.{closest}

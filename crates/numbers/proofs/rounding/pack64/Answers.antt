@@ -1,5 +1,5 @@
 -- `numbers::rounding::pack64` meets its contract: `proofs/Packs.antt` says what the pattern is read as. Assumes nothing.
-use Rattle.std.proofs.Common.{◌≡◌, ℕ, ◌+◌, ◌*◌, ◌%◌, ◌^◌, ◌<◌, ◌≤◌, min, Bool, cond, not, T, ◌⊎◌, sym, ap, ◌∙◌, subst, lit≤, shl_exact, rules}
+use Rattle.std.proofs.Common.{◌≡◌, ℕ, ◌+◌, ◌^◌, ◌<◌, min, cond, not, T, sym, ap, ◌∙◌, subst, lit≤, shl_exact}
 use lib.Ieee.{binary64, nan_bits, of_bits}
 use Rattle.numbers.proofs.Packs.{pattern, pattern_is, pattern_lt, pattern_number}
 use Rattle.numbers.proofs.rounding.pack64.Goals as goal

@@ -1,5 +1,5 @@
 -- `numbers::rounding::ratio32` meets its contract. Assumes nothing.
-use Rattle.std.proofs.Common.{◌∙◌, rules}
+use Rattle.std.proofs.Common.{◌∙◌}
 use lib.Ieee.{binary32}
 use Rattle.numbers.proofs.Rounds.{ratio_is}
 use Rattle.numbers.proofs.rounding.ratio32.Goals as goal

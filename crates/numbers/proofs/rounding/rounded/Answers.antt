@@ -1,5 +1,5 @@
 -- `numbers::rounding::rounded` meets its contract: `proofs/Closest.antt` says when the quotient goes up. Assumes nothing.
-use Rattle.std.proofs.Common.{ℕ, ◌+◌, ◌/◌, ◌%◌, ◌^◌, ◌<◌, sym, ap, ◌∙◌, arith, rules}
+use Rattle.std.proofs.Common.{ℕ, ◌+◌, ◌/◌, ◌%◌, ◌^◌, ◌<◌, sym, ap, ◌∙◌, arith}
 use lib.Ieee.Nearest.{closest}
 use Rattle.numbers.proofs.Closest.{far, whole_le, rest_lt, cut_lt, rounds_up, rounds_down}
 use Rattle.numbers.proofs.rounding.rounded.Goals as goal

@@ -1,5 +1,5 @@
 -- `numbers::rounding::take_apart` meets its contract: `proofs/Reading.antt` reads the fields. Assumes nothing.
-use Rattle.std.proofs.Common.{ℕ, ◌+◌, ◌-◌, ◌^◌, ◌<◌, T, sym, refl, subst, arith, rules}
+use Rattle.std.proofs.Common.{ℕ, ◌+◌, ◌-◌, ◌^◌, ◌<◌, T, sym, refl, subst, arith}
 use lib.Ieee.{binary64, fits}
 use Rattle.numbers.proofs.Reading.{finite_number, low_lt, field_lt, parted_low, parted}
 use Rattle.numbers.proofs.rounding.take_apart.Goals as goal

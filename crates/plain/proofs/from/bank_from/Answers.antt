@@ -1,5 +1,4 @@
 -- `plain::from::bank_from` meets its contract. Assumes nothing.
-use borrow.Author.Rules.{rules}
 use Rattle.plain.proofs.from.bank_from.Goals as goal
 
 pub returns : goal.returns

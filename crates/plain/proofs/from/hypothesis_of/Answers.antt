@@ -1,5 +1,4 @@
 -- `plain::from::hypothesis_of` meets its contract. Assumes nothing.
-use borrow.Author.Rules.{rules}
 use Rattle.plain.proofs.from.hypothesis_of.Goals as goal
 
 pub returns : goal.returns

@@ -1,9 +1,7 @@
 -- `plain::from::log_of` meets its contract. Assumes nothing.
-use Prim.Native.Nat.{◌-◌}
-use native.Mathlib.Omega.{arith}
 use borrow.Author.Rules.{rules}
 use Rattle.marks.proofs.Shifting.{unmapped}
-use Rattle.plain_tracker.proofs.Carrying.{Laden, filled, laden_begins, laden_turns, laden_ends}
+use Rattle.plain_tracker.proofs.Carrying.{filled, laden_begins, laden_turns, laden_ends}
 use Rattle.plain.specs.Plain.{record_of, no_record}
 use Rattle.plain.proofs.from.log_of.Goals as goal
 

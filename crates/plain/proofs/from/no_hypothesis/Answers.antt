@@ -5,7 +5,6 @@ use lib.Ieee.{of_bits}
 use Rattle.ranges.specs.Limits.{nought}
 use Rattle.tracker.specs.declared.SpeedTracker.{SpeedTracker}
 use Rattle.bank_model.specs.declared.Origin.TheVariants.{Bootstrap}
-use borrow.Author.Rules.{rules}
 use Rattle.plain.proofs.from.no_hypothesis.Goals as goal
 
 pub returns : goal.returns

@@ -1,5 +1,4 @@
 -- `plain::from::record_of` meets its contract. Assumes nothing.
-use borrow.Author.Rules.{rules}
 use Rattle.plain.proofs.from.record_of.Goals as goal
 
 pub returns : goal.returns

@@ -1,5 +1,4 @@
 -- `plain::is::are_flags` meets its contract. Assumes nothing.
-use borrow.Author.Rules.{rules}
 use Rattle.plain.proofs.is.are_flags.Goals as goal
 
 pub returns : goal.returns

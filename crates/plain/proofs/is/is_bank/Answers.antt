@@ -1,5 +1,4 @@
 -- `plain::is::is_bank` meets its contract. Assumes nothing.
-use borrow.Author.Rules.{rules}
 use Rattle.plain.proofs.is.is_bank.Goals as goal
 
 pub returns : goal.returns

@@ -1,12 +1,12 @@
 -- `plain::is::is_crew` meets its contract. Assumes nothing.
 use mathlib.Core.Bool.{not}
 use mathlib.Core.Path.{◌≡◌, ap, ◌∙◌}
-use Prim.Native.Nat.{◌-◌, ◌≤◌}
+use Prim.Native.Nat.{◌≤◌}
 use native.Mathlib.Omega.{arith}
-use lib.ListN.{length, take}
+use lib.ListN.{length}
 use borrow.Author.Rules.{rules}
 use Rattle.marks.specs.Lists.{all}
-use Rattle.marks.proofs.Testing.{Testing, test_begins, test_turns, test_fails, test_ends, tested, places}
+use Rattle.marks.proofs.Testing.{test_begins, test_turns, test_fails, test_ends, tested, places}
 use Rattle.marks.proofs.Shifting.{unmapped}
 use Rattle.plain.specs.Plain.{is_hyp, is_crew}
 use Rattle.plain_tracker.proofs.Carrying.{take_capped, capped_at}

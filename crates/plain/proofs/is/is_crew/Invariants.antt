@@ -1,14 +1,9 @@
 -- `plain::is::is_crew` meets its contract. Assumes nothing.
-use mathlib.Core.Path.{◌≡◌, ap, ◌∙◌}
+use mathlib.Core.Path.{◌≡◌}
 use Prim.Native.Nat.{◌-◌, ◌≤◌}
-use native.Mathlib.Omega.{arith}
 use lib.ListN.{length, take}
-use borrow.Author.Rules.{rules}
-use Rattle.marks.specs.Lists.{all}
-use Rattle.marks.proofs.Testing.{Testing, test_begins, test_turns, test_fails, test_ends, tested, places}
-use Rattle.marks.proofs.Shifting.{unmapped}
-use Rattle.plain.specs.Plain.{is_hyp, is_crew}
-use Rattle.plain_tracker.proofs.Carrying.{take_capped, capped_at}
+use Rattle.marks.proofs.Testing.{Testing}
+use Rattle.plain.specs.Plain.{is_hyp}
 use Rattle.plain.proofs.is.is_crew.Given as goal
 
 abbrev pub invariant-loop-i : goal.invariant-loop-i

@@ -1,5 +1,4 @@
 -- `plain::is::is_side` meets its contract. Assumes nothing.
-use borrow.Author.Rules.{rules}
 use borrow.Author.Tests.{ne_eqb}
 use Rattle.plain.proofs.is.is_side.Goals as goal
 

@@ -1,6 +1,5 @@
 -- `plain::to::blank_hypothesis` meets its contract. Assumes nothing.
 use lib.Ieee.{of_bits}
-use borrow.Author.Rules.{rules}
 use Rattle.plain.proofs.to.blank_hypothesis.Goals as goal
 
 pub returns : goal.returns

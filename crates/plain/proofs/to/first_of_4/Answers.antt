@@ -1,11 +1,9 @@
 -- `plain::to::first_of_4` meets its contract. Assumes nothing.
 use mathlib.Core.Path.{refl}
-use Prim.Native.Nat.{◌-◌}
-use native.Mathlib.Omega.{arith}
 use lib.Ieee.{Float, of_bits}
 use borrow.Author.Rules.{rules}
 use Rattle.ranges.specs.Limits.{nought}
-use Rattle.plain_tracker.proofs.Carrying.{Laden, filled, laden_begins, laden_turns, laden_ends}
+use Rattle.plain_tracker.proofs.Carrying.{filled, laden_begins, laden_turns, laden_ends}
 use Rattle.plain.proofs.to.first_of_4.Goals as goal
 
 pub loop-i-init : goal.loop-i-init

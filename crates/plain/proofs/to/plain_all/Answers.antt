@@ -1,9 +1,7 @@
 -- `plain::to::plain_all` meets its contract. Assumes nothing.
-use Prim.Native.Nat.{◌-◌}
-use native.Mathlib.Omega.{arith}
 use borrow.Author.Rules.{rules}
 use Rattle.marks.proofs.Shifting.{unmapped}
-use Rattle.plain_tracker.proofs.Carrying.{Laden, filled, laden_begins, laden_turns, laden_ends}
+use Rattle.plain_tracker.proofs.Carrying.{filled, laden_begins, laden_turns, laden_ends}
 use Rattle.plain.specs.Plain.{plain_hyp, blank_hyp}
 use Rattle.plain.proofs.to.plain_all.Goals as goal
 

@@ -1,5 +1,4 @@
 -- `plain::to::plain_bank` meets its contract. Assumes nothing.
-use borrow.Author.Rules.{rules}
 use Rattle.plain.proofs.to.plain_bank.Goals as goal
 
 pub returns : goal.returns

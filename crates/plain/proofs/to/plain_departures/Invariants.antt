@@ -1,9 +1,6 @@
 -- `plain::to::plain_departures` meets its contract. Assumes nothing.
 use Prim.Native.Nat.{◌-◌}
-use native.Mathlib.Omega.{arith}
-use borrow.Author.Rules.{rules}
-use Rattle.marks.proofs.Shifting.{unmapped}
-use Rattle.plain_tracker.proofs.Carrying.{Laden, filled, laden_begins, laden_turns, laden_ends}
+use Rattle.plain_tracker.proofs.Carrying.{Laden}
 use Rattle.bank.specs.Parts.{most_left}
 use Rattle.plain.specs.Plain.{plain_departure, no_departure}
 use Rattle.plain.proofs.to.plain_departures.Given as goal

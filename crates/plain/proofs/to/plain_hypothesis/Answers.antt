@@ -1,5 +1,4 @@
 -- `plain::to::plain_hypothesis` meets its contract. Assumes nothing.
-use borrow.Author.Rules.{rules}
 use Rattle.plain.proofs.to.plain_hypothesis.Goals as goal
 
 pub returns : goal.returns

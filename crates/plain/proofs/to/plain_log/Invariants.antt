@@ -1,9 +1,6 @@
 -- `plain::to::plain_log` meets its contract. Assumes nothing.
 use Prim.Native.Nat.{◌-◌}
-use native.Mathlib.Omega.{arith}
-use borrow.Author.Rules.{rules}
-use Rattle.marks.proofs.Shifting.{unmapped}
-use Rattle.plain_tracker.proofs.Carrying.{Laden, filled, laden_begins, laden_turns, laden_ends}
+use Rattle.plain_tracker.proofs.Carrying.{Laden}
 use Rattle.plain.specs.Plain.{plain_record, blank_record}
 use Rattle.plain.proofs.to.plain_log.Given as goal
 

@@ -1,5 +1,4 @@
 -- `plain_station::from::is_station` meets its contract. Assumes nothing.
-use borrow.Author.Rules.{rules}
 use Rattle.plain_station.proofs.from.is_station.Goals as goal
 
 pub returns : goal.returns

@@ -1,5 +1,4 @@
 -- `plain_station::from::station_from` meets its contract. Assumes nothing.
-use borrow.Author.Rules.{rules}
 use Rattle.plain_station.proofs.from.station_from.Goals as goal
 
 pub returns : goal.returns

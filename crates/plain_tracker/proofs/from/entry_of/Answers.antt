@@ -1,5 +1,4 @@
 -- `plain_tracker::from::entry_of` meets its contract. Assumes nothing.
-use borrow.Author.Rules.{rules}
 use Rattle.plain_tracker.proofs.from.entry_of.Goals as goal
 
 pub returns : goal.returns

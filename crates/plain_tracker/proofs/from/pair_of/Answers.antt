@@ -1,5 +1,4 @@
 -- `plain_tracker::from::pair_of` meets its contract. Assumes nothing.
-use borrow.Author.Rules.{rules}
 use Rattle.plain_tracker.proofs.from.pair_of.Goals as goal
 
 pub returns : goal.returns

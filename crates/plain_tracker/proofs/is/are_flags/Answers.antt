@@ -1,5 +1,4 @@
 -- `plain_tracker::is::are_flags` meets its contract. Assumes nothing.
-use borrow.Author.Rules.{rules}
 use Rattle.plain_tracker.proofs.is.are_flags.Goals as goal
 
 pub returns : goal.returns

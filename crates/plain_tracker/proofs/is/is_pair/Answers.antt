@@ -1,5 +1,4 @@
 -- `plain_tracker::is::is_pair` meets its contract. Assumes nothing.
-use borrow.Author.Rules.{rules}
 use Rattle.plain_tracker.proofs.is.is_pair.Goals as goal
 
 pub returns : goal.returns

@@ -1,14 +1,9 @@
 -- `plain_tracker::is::is_ring` meets its contract. Assumes nothing.
-use mathlib.Core.Path.{◌≡◌, ap, ◌∙◌}
+use mathlib.Core.Path.{◌≡◌}
 use Prim.Native.Nat.{◌-◌, ◌≤◌}
-use native.Mathlib.Omega.{arith}
 use lib.ListN.{length, take}
-use borrow.Author.Rules.{rules}
-use Rattle.marks.specs.Lists.{all}
-use Rattle.marks.proofs.Testing.{Testing, test_begins, test_turns, test_fails, test_ends, tested, places}
-use Rattle.marks.proofs.Shifting.{unmapped}
-use Rattle.plain_tracker.specs.Plain.{is_entry, is_ring}
-use Rattle.plain_tracker.proofs.Carrying.{take_capped, capped_at}
+use Rattle.marks.proofs.Testing.{Testing}
+use Rattle.plain_tracker.specs.Plain.{is_entry}
 use Rattle.plain_tracker.proofs.is.is_ring.Given as goal
 
 abbrev pub invariant-loop-i : goal.invariant-loop-i

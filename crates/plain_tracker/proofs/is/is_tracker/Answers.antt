@@ -1,5 +1,4 @@
 -- `plain_tracker::is::is_tracker` meets its contract. Assumes nothing.
-use borrow.Author.Rules.{rules}
 use Rattle.plain_tracker.proofs.is.is_tracker.Goals as goal
 
 pub returns : goal.returns

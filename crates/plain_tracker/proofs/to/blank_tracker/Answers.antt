@@ -1,6 +1,5 @@
 -- `plain_tracker::to::blank_tracker` meets its contract. Assumes nothing.
 use lib.Ieee.{of_bits}
-use borrow.Author.Rules.{rules}
 use Rattle.plain_tracker.specs.Plain.{carried}
 use Rattle.plain_tracker.proofs.to.blank_tracker.Goals as goal
 

@@ -1,5 +1,4 @@
 -- `plain_tracker::to::plain_pair` meets its contract. Assumes nothing.
-use borrow.Author.Rules.{rules}
 use Rattle.plain_tracker.proofs.to.plain_pair.Goals as goal
 
 pub returns : goal.returns

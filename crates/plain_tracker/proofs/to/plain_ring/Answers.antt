@@ -1,10 +1,8 @@
 -- `plain_tracker::to::plain_ring` meets its contract. Assumes nothing.
-use Prim.Native.Nat.{◌-◌}
-use native.Mathlib.Omega.{arith}
 use borrow.Author.Rules.{rules}
 use Rattle.marks.proofs.Shifting.{unmapped}
 use Rattle.plain_tracker.specs.Plain.{plain_entry, blank_entry}
-use Rattle.plain_tracker.proofs.Carrying.{Laden, filled, laden_begins, laden_turns, laden_ends}
+use Rattle.plain_tracker.proofs.Carrying.{filled, laden_begins, laden_turns, laden_ends}
 use Rattle.plain_tracker.proofs.to.plain_ring.Goals as goal
 
 pub loop-i-init : goal.loop-i-init

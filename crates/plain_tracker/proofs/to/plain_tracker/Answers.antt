@@ -1,5 +1,4 @@
 -- `plain_tracker::to::plain_tracker` meets its contract. Assumes nothing.
-use borrow.Author.Rules.{rules}
 use Rattle.plain_tracker.proofs.to.plain_tracker.Goals as goal
 
 pub returns : goal.returns

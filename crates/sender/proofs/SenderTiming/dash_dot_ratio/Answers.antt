@@ -1,6 +1,5 @@
 -- `sender::SenderTiming::dash_dot_ratio` meets its contract. Assumes nothing.
 use mathlib.Core.Path.{sym, ◌∙◌}
-use borrow.Author.Rules.{rules}
 use Rattle.ranges.proofs.Compare.{passed}
 use Rattle.sender.specs.Model.{view}
 use Rattle.sender.specs.Answers.{ratio_said}

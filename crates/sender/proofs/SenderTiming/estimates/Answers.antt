@@ -1,6 +1,5 @@
 -- `sender::SenderTiming::estimates` meets its contract. Assumes nothing.
 use mathlib.Core.Path.{sym, ap, ap₂, ◌∙◌}
-use borrow.Author.Rules.{rules}
 use Rattle.sender.specs.Model.{view}
 use Rattle.sender.specs.Answers.{reported, report}
 use Rattle.sender.proofs.Tests.{said_sound, said_unsound}

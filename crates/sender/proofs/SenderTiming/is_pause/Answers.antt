@@ -1,6 +1,5 @@
 -- `sender::SenderTiming::is_pause` meets its contract. Assumes nothing.
 use mathlib.Core.Path.{sym, ap, ◌∙◌}
-use borrow.Author.Rules.{rules}
 use Rattle.sender.specs.Model.{view}
 use Rattle.sender.specs.Answers.{pause_said, flag}
 use Rattle.sender.proofs.Tests.{said_sound, said_unsound}

@@ -1,6 +1,5 @@
 -- `sender::SenderTiming::mean_dits` meets its contract. Assumes nothing.
 use mathlib.Core.Path.{sym, ◌∙◌}
-use borrow.Author.Rules.{rules}
 use Rattle.sender.specs.Model.{view}
 use Rattle.sender.specs.Answers.{mean_said}
 use Rattle.sender.proofs.Tests.{said_sound, said_unsound}

@@ -1,7 +1,6 @@
 -- `sender::SenderTiming::observe` meets its contract. Assumes nothing.
 use mathlib.Core.Path.{refl, sym, ap, ◌∙◌}
 use Prim.Native.Nat.{ℕ}
-use borrow.Author.Rules.{rules}
 use Rattle.sender.specs.Model.{view}
 use Rattle.sender.specs.Answers.{unless, done}
 use Rattle.sender.proofs.Views.{unchanged}

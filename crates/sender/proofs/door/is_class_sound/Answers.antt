@@ -3,7 +3,6 @@ use mathlib.Core.Path.{refl, sym, ◌∙◌}
 use mathlib.Core.Bool.{true, false}
 use lib.Ieee.{of_bits, le}
 use lib.Ieee.Scale.{finite}
-use borrow.Author.Rules.{rules}
 use Rattle.ranges.specs.Limits.{nought}
 use Rattle.sender.specs.Sound.{class_sound}
 use Rattle.sender.proofs.Tests.{class_sound_is}

@@ -1,5 +1,4 @@
 -- `sender::door::is_sound` meets its contract. Assumes nothing.
-use borrow.Author.Rules.{rules}
 use Rattle.sender.specs.Sound.{sound}
 use Rattle.sender.proofs.door.is_sound.Goals as goal
 

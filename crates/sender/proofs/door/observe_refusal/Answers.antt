@@ -1,7 +1,6 @@
 -- `sender::door::observe_refusal` meets its contract. Assumes nothing.
 use mathlib.Core.Path.{refl, sym, ◌∙◌}
 use mathlib.Core.Bool.{true, false}
-use borrow.Author.Rules.{rules}
 use Rattle.ranges.specs.Interval.{within}
 use Rattle.ranges.specs.Limits.{duration_refusal}
 use Rattle.sender.specs.Constants.{dit_min, dit_max}

@@ -1,5 +1,4 @@
 -- `sender::inner::boundary` meets its contract. Assumes nothing.
-use borrow.Author.Rules.{rules}
 use Rattle.sender.specs.Steps.{boundary}
 use Rattle.sender.proofs.Views.{none_at, some_at}
 use Rattle.sender.proofs.Readings.{nominal_root_law}

@@ -3,7 +3,6 @@ use mathlib.Core.Path.{sym, subst}
 use mathlib.Core.Option.{Option}
 use lib.Dec.{T}
 use lib.Ieee.{of_bits}
-use borrow.Author.Rules.{rules}
 use Rattle.sender.specs.Model.{Class}
 use Rattle.sender.specs.Sound.{class_sound}
 use Rattle.sender.specs.Steps.{observed_class}

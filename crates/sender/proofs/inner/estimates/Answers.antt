@@ -1,6 +1,5 @@
 -- `sender::inner::estimates` meets its contract. Assumes nothing.
 use mathlib.Core.Path.{refl}
-use borrow.Author.Rules.{rules}
 use Rattle.sender.proofs.inner.estimates.Goals as goal
 
 pub returns : goal.returns

@@ -1,5 +1,4 @@
 -- `sender::inner::is_pause` meets its contract. Assumes nothing.
-use borrow.Author.Rules.{rules}
 use Rattle.sender.specs.Steps.{pauses}
 use Rattle.sender.proofs.inner.is_pause.Goals as goal
 

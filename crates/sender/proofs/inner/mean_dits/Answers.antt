@@ -1,7 +1,6 @@
 -- `sender::inner::mean_dits` meets its contract. Assumes nothing.
 use mathlib.Core.Path.{sym, ap, ◌∙◌}
 use mathlib.Core.Option.{Option}
-use borrow.Author.Rules.{rules}
 use Rattle.sender.specs.Model.{Class, view_class}
 use Rattle.sender.specs.Steps.{mean_of}
 use Rattle.sender.specs.Answers.{Answer, in_dits, optional}

@@ -1,7 +1,6 @@
 -- `sender::inner::sender_word_dits` meets its contract. Assumes nothing.
 use mathlib.Core.Path.{sym, ap, ◌∙◌}
 use lib.Ieee.{Float}
-use borrow.Author.Rules.{rules}
 use Rattle.order.specs.Order.{clamp}
 use Rattle.sender.specs.declared.TimingClass.TheVariants.{CharGap, WordGap}
 use Rattle.sender.specs.Constants.{word_min, word_max}

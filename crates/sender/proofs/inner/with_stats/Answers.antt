@@ -1,5 +1,4 @@
 -- `sender::inner::with_stats` meets its contract. Assumes nothing.
-use borrow.Author.Rules.{rules}
 use Rattle.sender.proofs.inner.with_stats.Goals as goal
 
 pub returns-in-Dot : goal.returns-in-Dot

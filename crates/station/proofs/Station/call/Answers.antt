@@ -3,7 +3,6 @@ use mathlib.Core.Path.{sym, ◌∙◌}
 use native.Mathlib.Omega.{arith}
 use Rattle.station.proofs.Refusing.{unsound_by}
 use Rattle.station.proofs.Answering.{answers_not}
-use borrow.Author.Rules.{rules}
 use Rattle.station.proofs.Station.call.Goals as goal
 
 pub call-requires : goal.call-requires

@@ -3,7 +3,6 @@ use mathlib.Core.Path.{ap, sym, ◌∙◌}
 use native.Mathlib.Omega.{arith}
 use Rattle.station.specs.Answers.{rival_of}
 use Rattle.station.proofs.Answering.{shows, shows_not, held, gone}
-use borrow.Author.Rules.{rules}
 use Rattle.station.proofs.Station.challenger.Goals as goal
 
 pub offset_bounds-b-i : goal.offset_bounds-b-i

@@ -3,7 +3,6 @@ use mathlib.Core.Path.{ap, sym, ◌∙◌}
 use Rattle.station.proofs.Answering.{reads, reads_not}
 use Rattle.tracker.specs.Answers.{count}
 use Rattle.station.proofs.Sounding.{held}
-use borrow.Author.Rules.{rules}
 use Rattle.station.proofs.Station.challengers.Goals as goal
 
 pub returns-then-is_sound : goal.returns-then-is_sound

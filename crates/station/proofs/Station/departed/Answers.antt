@@ -2,7 +2,6 @@
 use mathlib.Core.Path.{ap, sym, ◌∙◌}
 use Rattle.station.proofs.Answering.{reads, reads_not}
 use Rattle.tracker.specs.Answers.{count}
-use borrow.Author.Rules.{rules}
 use Rattle.station.proofs.Station.departed.Goals as goal
 
 pub returns-then-is_sound : goal.returns-then-is_sound

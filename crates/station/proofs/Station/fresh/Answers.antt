@@ -1,6 +1,5 @@
 -- `station::Station::fresh` meets its contract. Assumes nothing.
 use Rattle.station.proofs.Watching.{begins, begins_not}
-use borrow.Author.Rules.{rules}
 use Rattle.station.proofs.Station.fresh.Goals as goal
 
 pub returns-then-width-le8 : goal.returns-then-width-le8

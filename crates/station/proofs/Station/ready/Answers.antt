@@ -1,7 +1,6 @@
 -- `station::Station::ready` meets its contract. Assumes nothing.
 use mathlib.Core.Path.{refl, sym, ◌∙◌}
 use Rattle.station.proofs.Answering.{reads, reads_not}
-use borrow.Author.Rules.{rules}
 use Rattle.station.proofs.Station.ready.Goals as goal
 
 pub returns-then-is_sound : goal.returns-then-is_sound

@@ -4,7 +4,6 @@ use mathlib.Core.Bool.{Bool}
 use Rattle.station.proofs.Answering.{reads, reads_not}
 use Rattle.tracker.specs.Answers.{optional}
 use Rattle.pair.specs.Model.{held}
-use borrow.Author.Rules.{rules}
 use Rattle.station.proofs.Station.wpm.Goals as goal
 
 pub returns-then-p : goal.returns-then-p

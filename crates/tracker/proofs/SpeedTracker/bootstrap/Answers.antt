@@ -1,5 +1,5 @@
 -- `tracker::SpeedTracker::bootstrap` meets its contract. Assumes nothing.
-use Rattle.std.proofs.Common.{sym, ap, ◌∙◌, rules}
+use Rattle.std.proofs.Common.{sym, ap, ◌∙◌}
 use Rattle.ranges.specs.Settings.{standard}
 use Rattle.tracker.specs.Answers.{flag}
 use Rattle.tracker.proofs.Answering.{is_sound, state_good, does, unsound_not}

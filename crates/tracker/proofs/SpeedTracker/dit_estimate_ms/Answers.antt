@@ -1,5 +1,5 @@
 -- `tracker::SpeedTracker::dit_estimate_ms` meets its contract. Assumes nothing.
-use Rattle.std.proofs.Common.{sym, ap, ◌∙◌, rules}
+use Rattle.std.proofs.Common.{sym, ap, ◌∙◌}
 use Rattle.ranges.specs.Settings.{standard}
 use Rattle.tracker.specs.Answers.{number}
 use Rattle.tracker.proofs.Answering.{reads, reads_not}

@@ -1,5 +1,5 @@
 -- `tracker::SpeedTracker::mu_dah_ms` meets its contract. Assumes nothing.
-use Rattle.std.proofs.Common.{sym, refl, ◌∙◌, rules}
+use Rattle.std.proofs.Common.{sym, refl, ◌∙◌}
 use Rattle.ranges.specs.Settings.{standard}
 use Rattle.tracker.proofs.Answering.{reads, reads_not}
 use Rattle.tracker.proofs.SpeedTracker.mu_dah_ms.Goals as goal

@@ -1,5 +1,5 @@
 -- `tracker::SpeedTracker::mu_egap_ms` meets its contract. Assumes nothing.
-use Rattle.std.proofs.Common.{Bool, sym, ap, ◌∙◌, rules}
+use Rattle.std.proofs.Common.{Bool, sym, ap, ◌∙◌}
 use Rattle.ranges.specs.Settings.{standard}
 use Rattle.tracker.specs.Answers.{optional}
 use Rattle.pair.specs.Model.{held}

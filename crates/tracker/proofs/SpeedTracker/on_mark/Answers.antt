@@ -1,5 +1,5 @@
 -- `tracker::SpeedTracker::on_mark` meets its contract. Assumes nothing.
-use Rattle.std.proofs.Common.{sym, refl, ◌∙◌, rules}
+use Rattle.std.proofs.Common.{sym, refl, ◌∙◌}
 use Rattle.ranges.specs.Settings.{standard}
 use Rattle.tracker.proofs.Answering.{accepted, does, does_not, good_duration}
 use Rattle.tracker.proofs.SpeedTracker.on_mark.Goals as goal

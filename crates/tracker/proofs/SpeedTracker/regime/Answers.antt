@@ -1,5 +1,5 @@
 -- `tracker::SpeedTracker::regime` meets its contract. Assumes nothing.
-use Rattle.std.proofs.Common.{sym, refl, ◌∙◌, rules}
+use Rattle.std.proofs.Common.{sym, refl, ◌∙◌}
 use Rattle.ranges.specs.Settings.{standard}
 use Rattle.tracker.proofs.Answering.{reads, reads_not}
 use Rattle.tracker.proofs.SpeedTracker.regime.Goals as goal

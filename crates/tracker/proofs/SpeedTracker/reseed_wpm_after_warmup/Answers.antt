@@ -1,5 +1,5 @@
 -- `tracker::SpeedTracker::reseed_wpm_after_warmup` meets its contract. Assumes nothing.
-use Rattle.std.proofs.Common.{sym, refl, ◌∙◌, rules}
+use Rattle.std.proofs.Common.{sym, refl, ◌∙◌}
 use Rattle.ranges.specs.Settings.{standard}
 use Rattle.tracker.proofs.Answering.{is_sound, state_good, does, unsound_not}
 use Rattle.tracker.proofs.SpeedTracker.reseed_wpm_after_warmup.Goals as goal

@@ -1,5 +1,5 @@
 -- `tracker::SpeedTracker::resolve_unimodal_bootstrap` meets its contract. Assumes nothing.
-use Rattle.std.proofs.Common.{sym, ap, ◌∙◌, rules}
+use Rattle.std.proofs.Common.{sym, ap, ◌∙◌}
 use Rattle.ranges.specs.Settings.{standard}
 use Rattle.tracker.specs.Answers.{flag}
 use Rattle.tracker.proofs.Answering.{accepted, does, does_not, good_list}

@@ -1,5 +1,5 @@
 -- `tracker::SpeedTracker::seed_wpm` meets its contract. Assumes nothing.
-use Rattle.std.proofs.Common.{sym, refl, ◌∙◌, rules}
+use Rattle.std.proofs.Common.{sym, refl, ◌∙◌}
 use Rattle.ranges.specs.Settings.{standard}
 use Rattle.tracker.proofs.Answering.{accepted, does, does_not, good_speed}
 use Rattle.tracker.proofs.SpeedTracker.seed_wpm.Goals as goal

@@ -1,5 +1,5 @@
 -- `tracker::SpeedTracker::set_ratio_hint` meets its contract. Assumes nothing.
-use Rattle.std.proofs.Common.{sym, refl, ◌∙◌, rules}
+use Rattle.std.proofs.Common.{sym, refl, ◌∙◌}
 use Rattle.ranges.specs.Settings.{standard}
 use Rattle.tracker.proofs.Answering.{is_sound, state_good, does, unsound_not}
 use Rattle.tracker.proofs.SpeedTracker.set_ratio_hint.Goals as goal

@@ -1,26 +1,16 @@
-use Rattle.std.proofs.Common.{◌≡◌, ℕ, ◌-◌, sym, refl, ap, ◌∙◌, rules}
-use Rattle.bank.proofs.Stock.{Mapping, map_begins, map_member, map_turns, map_ends, room, member}
-use Rattle.bank.proofs.Lists.{Folding, fold_begins, fold_turns, fold_decides, fold_ends}
-use Rattle.bank_model.specs.Steps.{marked, gapped, led, least_from, highest_from, eligible, qualifies, any_twin, greatest_unit, lesser, higher}
-use Rattle.rival.specs.View.{view_hyp}
-use Rattle.bank.specs.View.{view}
-use Rattle.ranges.specs.Settings.{standard}
-use Rattle.bank.proofs.Finds.{least_step, highest_step, twin_step, twin_found, unit_step, unit_fold}
-use Rattle.bank.proofs.inner.among.greatest_unit.Reads as reads
-use Rattle.bank.proofs.inner.among.greatest_unit.Lts as lts
-use Rattle.order.proofs.max32.Reads as max32-reads
-use Rattle.tracker.proofs.inner.speed.dit_estimate.Reads as dit-estimate-reads
+use Rattle.std.proofs.Common.{sym}
+use Rattle.bank.proofs.Stock.{room}
+use Rattle.bank.proofs.Lists.{fold_begins, fold_turns, fold_ends}
+use Rattle.bank_model.specs.Steps.{greatest_unit}
+use Rattle.bank.proofs.Finds.{unit_step}
 use Rattle.bank.proofs.inner.among.greatest_unit.Goals as goal
 
--- src/inner/among.rt:28:5
 pub loop-i-init : goal.loop-i-init
 loop-i-init c = fold_begins _ _ _ _ _ (room _ _ c.requires)
 
--- src/inner/among.rt:28:5
 pub loop-i-preserved : goal.loop-i-preserved
 loop-i-preserved c = fold_turns _ _ _ _ _ _ _ _ _ c.loop-i-test.true c.loop-i.invariant (λ r. unit_step _ 0 _ _ _ _ r c.dit_estimate.ensures c.max32-acc.ensures)
 
--- src/inner/among.rt:21:1
 pub returns : goal.returns
 unfolding greatest_unit
 returns c = sym (fold_ends _ _ _ _ _ _ _ c.loop-i-test.false c.loop-i.invariant)

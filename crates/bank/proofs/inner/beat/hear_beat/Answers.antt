@@ -1,28 +1,14 @@
 -- `bank::inner::beat::hear_beat` meets its contract. Assumes nothing.
-use Rattle.std.proofs.Common.{◌≡◌, ◌-◌, true, T, map, sym, ◌∙◌, rules}
-use Rattle.numbers.specs.Log.{ln_of}
+use Rattle.std.proofs.Common.{true, sym, ◌∙◌, rules}
 use Rattle.ranges.specs.Settings.{standard}
-use Rattle.marks.specs.Lists.{duration}
 use Rattle.tracker.specs.Model as Tracked
-use Rattle.bank_model.specs.Steps.{cause_at, led, qualifies, marked}
+use Rattle.bank_model.specs.Steps.{marked}
 use Rattle.bank.specs.View.{view}
-use Rattle.bank.proofs.Leaving.{Sifting, sift_begins, sift_member, sift_ends, heard_many, few_heard, keeps_heard, room_heard, drops_heard}
+use Rattle.bank.proofs.Leaving.{sift_begins, sift_member, sift_ends, heard_many, few_heard, keeps_heard, room_heard, drops_heard}
 use Rattle.bank.proofs.Padding.{empty_listed}
 use Rattle.bank.proofs.Beating.{beaten_is, few_marks, beat_told}
-use Rattle.bank.proofs.inner.beat.hear_beat.Reads as reads
-use Rattle.bank.proofs.inner.beat.hear_beat.Lts as lts
-use Rattle.bank.proofs.inner.among.better.Reads as better-reads
-use Rattle.bank.proofs.inner.among.is_found.Reads as is-found-reads
-use Rattle.bank.proofs.inner.among.place_or.Reads as place-or-reads
-use Rattle.bank.proofs.inner.beat.gone.Reads as gone-reads
-use Rattle.bank.proofs.inner.beat.struck.Reads as struck-reads
-use Rattle.bank.proofs.inner.leave.nobody.Reads as nobody-reads
-use Rattle.rival.proofs.inner.each.is_kept.Reads as is-kept-reads
-use Rattle.rival.proofs.inner.each.lead_one.Reads as lead-one-reads
-use Rattle.rival.proofs.inner.each.mark_one.Reads as mark-one-reads
 use Rattle.bank.proofs.inner.beat.hear_beat.Goals as goal
 
--- src/inner/beat.rt:157:5
 pub loop-i-init : goal.loop-i-init
 loop-i-init c =
     let a = c.before.before.before.before in
@@ -33,30 +19,24 @@ loop-i-init c =
       (s.requires.t, a.struck-k.ensures.log),
     )
 
--- src/inner/beat.rt:158:13
 pub mark_one-h-requires : goal.mark_one-h-requires
 mark_one-h-requires c = record { fit = sift_member _ _ _ _ _ _ _ _ _ _ _ _ _ _ c.loop-i.invariant.0 c.loop-i-test.true; t = c.loop-i.invariant.1.0; x_value = c.loop-i.invariant.1.1 }
 
--- src/inner/beat.rt:160:12
 pub is_kept-requires : goal.is_kept-requires
 is_kept-requires c = c.mark_one-h.ensures.1
 
--- src/inner/beat.rt:161:17
 pub lead_one-e-requires : goal.lead_one-e-requires
 lead_one-e-requires c = c.mark_one-h.ensures.1
 
--- src/inner/beat.rt:157:5
 pub loop-i-preserved-then-is_kept : goal.loop-i-preserved-then-is_kept
 loop-i-preserved-then-is_kept c =
     let a = c.before.before.before.before in
     let l = a.before.before.before in
     (keeps_heard _ _ _ _ _ _ _ _ _ _ _ _ _ _ l.loop-i.invariant.0 a.loop-i-test.true a.mark_one-h.result a.mark_one-h.ensures.0 _ c.lead_one-e.ensures (sym c.is_kept.ensures ∙ c.if-is_kept.true) _ c.better-best.ensures, l.loop-i.invariant.1)
 
--- src/inner/beat.rt:166:23
 pub gone-requires : goal.gone-requires
 gone-requires c = record { fit = c.mark_one-h.ensures.1; h_value = sym c.is_kept.ensures ∙ c.if-is_kept.false }
 
--- src/inner/beat.rt:166:13
 pub offset_bounds-left-g : goal.offset_bounds-left-g
 offset_bounds-left-g c =
     let s = c.before.before.before in
@@ -66,7 +46,6 @@ offset_bounds-left-g c =
     (sym c.is_kept.ensures ∙ c.if-is_kept.false)).0 in
     search rules
 
--- src/inner/beat.rt:166:13
 pub bounds-left-g : goal.bounds-left-g
 bounds-left-g c =
     let s = c.before.before.before in
@@ -76,7 +55,6 @@ bounds-left-g c =
     (sym c.is_kept.ensures ∙ c.if-is_kept.false)).0 in
     search rules
 
--- src/inner/beat.rt:167:13
 pub overflow_add-g : goal.overflow_add-g
 overflow_add-g c =
     let s = c.before.before.before in
@@ -86,14 +64,12 @@ overflow_add-g c =
     (sym c.is_kept.ensures ∙ c.if-is_kept.false)).0 in
     search rules
 
--- src/inner/beat.rt:157:5
 pub loop-i-preserved : goal.loop-i-preserved
 loop-i-preserved c =
     let a = c.before.before.before in
     let l = a.before.before.before in
     (drops_heard _ _ _ _ _ _ _ _ _ _ _ _ _ _ l.loop-i.invariant.0 a.loop-i-test.true a.mark_one-h.result a.mark_one-h.ensures.0 c.gone.result c.gone.ensures, l.loop-i.invariant.1)
 
--- src/inner/beat.rt:125:1
 pub returns : goal.returns
 returns c =
     let l = c.before.before.before in

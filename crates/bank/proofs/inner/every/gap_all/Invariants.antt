@@ -1,12 +1,9 @@
-use Rattle.std.proofs.Common.{◌≡◌, ℕ, ◌-◌, T, sym, refl, ap, ◌∙◌, rules}
+use Rattle.std.proofs.Common.{◌≡◌, ◌-◌, T}
 use Rattle.ranges.specs.Settings.{standard}
-use Rattle.bank.proofs.Stock.{Mapping, map_begins, map_member, map_turns, map_ends, room, member}
-use Rattle.bank_model.specs.Steps.{marked, gapped, led, least_from, highest_from, eligible, qualifies, any_twin, greatest_unit, lesser, higher}
+use Rattle.bank.proofs.Stock.{Mapping}
+use Rattle.bank_model.specs.Steps.{gapped}
 use Rattle.numbers.specs.Log.{ln_of}
 use Rattle.marks.specs.Lists.{duration}
-use Rattle.bank.proofs.inner.every.gap_all.Reads as reads
-use Rattle.bank.proofs.inner.every.gap_all.Lts as lts
-use Rattle.rival.proofs.inner.each.gap_one.Reads as gap-one-reads
 use Rattle.bank.proofs.inner.every.gap_all.Given as goal
 
 abbrev pub invariant-loop-i : goal.invariant-loop-i

@@ -1,5 +1,5 @@
 -- `bank::inner::fresh::fresh` meets its contract. Assumes nothing.
-use Rattle.std.proofs.Common.{◌≡◌, Bool, cond, sym, refl, ap, ◌∙◌, arith, rules, le-ltb, lt-ltb, le-leb}
+use Rattle.std.proofs.Common.{Bool, cond, refl, ap, arith, le-leb}
 use borrow.Author.Tests.{lt-leb}
 use Rattle.bank.proofs.Beginning.{begins}
 use Rattle.bank.proofs.inner.fresh.fresh.Goals as goal

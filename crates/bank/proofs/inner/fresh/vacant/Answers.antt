@@ -1,5 +1,5 @@
 -- `bank::inner::fresh::vacant` meets its contract. Assumes nothing.
-use Rattle.std.proofs.Common.{false, ap, rules}
+use Rattle.std.proofs.Common.{false, ap}
 use lib.Ieee.{binary32, of_bits}
 use Rattle.tracker.specs.declared.SpeedTracker.{SpeedTracker}
 use Rattle.bank_model.specs.declared.Origin.TheVariants.{Bootstrap}

@@ -1,9 +1,7 @@
 -- `bank::inner::leave::prune` meets its contract. Assumes nothing.
-use Rattle.std.proofs.Common.{◌-◌, sym, ◌∙◌, rules}
-use Rattle.ranges.specs.Settings.{standard}
-use Rattle.bank_model.specs.Steps.{cause_at, led, qualifies, pruned_at}
-use Rattle.bank.specs.View.{view}
-use Rattle.bank.proofs.Leaving.{Sifting, sift_begins, sift_member, sift_ends, sift_many, keeps_here, room_here, drops_here}
+use Rattle.std.proofs.Common.{sym, ◌∙◌, rules}
+use Rattle.bank_model.specs.Steps.{pruned_at}
+use Rattle.bank.proofs.Leaving.{sift_begins, sift_member, sift_ends, sift_many, keeps_here, room_here, drops_here}
 use Rattle.bank.proofs.inner.leave.prune.Goals as goal
 
 pub loop-i-init : goal.loop-i-init

@@ -1,9 +1,9 @@
 -- `bank::inner::leave::prune` meets its contract. Assumes nothing.
-use Rattle.std.proofs.Common.{◌-◌, sym, ◌∙◌, rules}
+use Rattle.std.proofs.Common.{◌-◌}
 use Rattle.ranges.specs.Settings.{standard}
-use Rattle.bank_model.specs.Steps.{cause_at, led, qualifies, pruned_at}
+use Rattle.bank_model.specs.Steps.{cause_at, led, qualifies}
 use Rattle.bank.specs.View.{view}
-use Rattle.bank.proofs.Leaving.{Sifting, sift_begins, sift_member, sift_ends, sift_many, keeps_here, room_here, drops_here}
+use Rattle.bank.proofs.Leaving.{Sifting}
 use Rattle.bank.proofs.inner.leave.prune.Given as goal
 
 abbrev pub invariant-loop-i : goal.invariant-loop-i

@@ -1,5 +1,5 @@
 -- `bank::inner::leave::unchanged` meets its contract. Assumes nothing.
-use Rattle.std.proofs.Common.{List, ap, rules}
+use Rattle.std.proofs.Common.{List, ap}
 use Rattle.bank_model.specs.declared.Departure.{Departure}
 use Rattle.bank.proofs.inner.leave.unchanged.Goals as goal
 

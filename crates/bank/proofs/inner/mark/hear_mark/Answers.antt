@@ -1,25 +1,16 @@
-use Rattle.bank.proofs.Hearing.{dropped, gap_heard, mark_heard, primary_mark, gap_by, mark_heard_by, silent_told, live_told, few_marked, mark_told}
-use Rattle.bank_model.proofs.Ready.{dit_log, dah_log, estimate_positive}
-use Rattle.bank.specs.View.{given, view}
+use Rattle.bank.proofs.Hearing.{few_marked, mark_told}
+use Rattle.bank_model.proofs.Ready.{dit_log, dah_log}
+use Rattle.bank.specs.View.{view}
 use Rattle.tracker.specs.Model as Tracked
 use Rattle.tracker.specs.Model as Tracked
-use Rattle.std.proofs.Common.{rules}
-use Rattle.bank.proofs.inner.mark.hear_mark.Reads as reads
-use Rattle.bank.proofs.inner.mark.hear_mark.Lts as lts
-use Rattle.bank.proofs.inner.leave.prune.Reads as prune-reads
-use Rattle.bank.proofs.inner.mark.score_mark.Reads as score-mark-reads
-use Rattle.bank_model.proofs.inner.scores.log_of.Reads as log-of-reads
 use Rattle.bank.proofs.inner.mark.hear_mark.Goals as goal
 
--- src/inner/mark.rt:68:9
 pub log_of-lo-requires : goal.log_of-lo-requires
 log_of-lo-requires c = dit_log c.args.p c.requires.t_2.0 c.requires.t_2.1
 
--- src/inner/mark.rt:69:9
 pub log_of-hi-requires : goal.log_of-hi-requires
 log_of-hi-requires c = dah_log c.args.p c.requires.t_2.0 c.requires.t_2.1
 
--- src/inner/mark.rt:71:9
 pub prune-requires : goal.prune-requires
 prune-requires c =
     let s = c.before.before.before.before in

@@ -1,23 +1,15 @@
-use Rattle.std.proofs.Common.{◌≡◌, Bool, true, false, leb, sym, refl, ap, ◌∙◌, subst, arith, rules}
-use Rattle.bank.proofs.Hearing.{dropped, gap_heard, mark_heard, primary_mark, gap_by, mark_heard_by, silent_told, live_told, mark_told}
-use Rattle.bank.proofs.Coming.{unchanged_left, unchanged_is, left_as}
-use Rattle.bank.specs.View.{given, view}
+use Rattle.std.proofs.Common.{true, false, leb, sym, ◌∙◌}
+use Rattle.bank.proofs.Hearing.{mark_heard_by}
+use Rattle.bank.proofs.Coming.{unchanged_left, left_as}
+use Rattle.bank.specs.View.{view}
 use Rattle.tracker.specs.Model as Tracked
 use Rattle.bank_model.proofs.Tests.{and_right}
-use Rattle.bank.specs.Parts.{Sturdy}
 use Rattle.tracker.specs.Model as Tracked
-use Rattle.bank.proofs.inner.mark.on_mark.Reads as reads
-use Rattle.bank.proofs.inner.mark.on_mark.Lts as lts
-use Rattle.bank.proofs.inner.leave.unchanged.Reads as unchanged-reads
-use Rattle.bank.proofs.inner.mark.hear_mark.Reads as hear-mark-reads
-use Rattle.bank.proofs.inner.mark.hears.Reads as hears-reads
 use Rattle.bank.proofs.inner.mark.on_mark.Goals as goal
 
--- src/inner/mark.rt:98:9
 pub hear_mark-requires : goal.hear_mark-requires
 hear_mark-requires c = record { sturdy = c.requires.sturdy; t = c.requires.t_2; t_2 = (c.requires.t, and_right (leb 2 c.args.b.width) c.args.p.pair.ready (sym c.hears.ensures ∙ c.if-hears.true)) }
 
--- src/inner/mark.rt:98:9
 pub returns-then-hears : goal.returns-then-hears
 returns-then-hears c =
     record {
@@ -30,7 +22,6 @@ returns-then-hears c =
       listed = c.hear_mark.ensures.listed;
     }
 
--- src/inner/mark.rt:90:1
 pub returns : goal.returns
 returns c =
     let s = c.before.before.before.before in

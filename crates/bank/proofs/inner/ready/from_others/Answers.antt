@@ -1,27 +1,18 @@
 use Rattle.bank_model.proofs.Others.{place_below, rest_length, rest_good, rest_is}
-use Rattle.std.proofs.Common.{◌≡◌, List, [], sym, refl, ap, ◌∙◌, rules}
+use Rattle.std.proofs.Common.{List, [], ap, ◌∙◌}
 use lib.Ieee.{Float}
 use Rattle.tracker.specs.Steps.{from_marks}
 use Rattle.ranges.specs.Settings.{standard}
-use Rattle.bank.proofs.inner.ready.from_others.Reads as reads
-use Rattle.bank.proofs.inner.ready.from_others.Lts as lts
-use Rattle.bank.proofs.inner.ready.least_place.Reads as least-place-reads
-use Rattle.bank.proofs.inner.ready.others.Reads as others-reads
-use Rattle.tracker.proofs.inner.rivals.from_marks.Reads as from-marks-reads
 use Rattle.bank.proofs.inner.ready.from_others.Goals as goal
 
--- src/inner/ready.rt:94:16
 pub others-rest-requires : goal.others-rest-requires
 others-rest-requires c = (c.requires.in_bounds.1, place_below _ [] _ c.least_place-k.ensures c.requires.in_bounds.0)
 
--- src/inner/ready.rt:97:16
 pub slice_bounds-from_marks-end : goal.slice_bounds-from_marks-end
 slice_bounds-from_marks-end c = rest_length _ _ _ c.least_place-k.ensures c.requires.in_bounds.0 c.others-rest.ensures
 
--- src/inner/ready.rt:97:5
 pub from_marks-requires : goal.from_marks-requires
 from_marks-requires c = let the = rest_good _ _ _ c.least_place-k.ensures c.requires.in_bounds.0 c.others-rest.ensures _ _ c.requires.in_bounds.1 c.requires.all_in in record { in_bounds = the.0; all_in = the.1.0; all_in_2 = the.1.1 }
 
--- src/inner/ready.rt:88:1
 pub returns : goal.returns
 returns c = (c.from_marks.ensures.0 ∙ ap (λ (l : List Float). from_marks standard l []) (rest_is _ _ _ c.least_place-k.ensures c.requires.in_bounds.0 c.others-rest.ensures), c.from_marks.ensures.1)

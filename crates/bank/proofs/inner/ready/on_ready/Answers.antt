@@ -1,41 +1,29 @@
-use Rattle.bank.proofs.Reading.{other_by, other_ready, ready_off, ready_on, ready_none}
-use Rattle.bank.proofs.Coming.{unchanged_left, unchanged_is, left_as}
-use Rattle.std.proofs.Common.{◌≡◌, Bool, true, false, sym, refl, ap, ◌∙◌, rules, le-leb}
+use Rattle.bank.proofs.Reading.{other_ready, ready_off, ready_on, ready_none}
+use Rattle.bank.proofs.Coming.{unchanged_left, left_as}
+use Rattle.std.proofs.Common.{Bool, true, false, sym, ap, ◌∙◌, le-leb}
 use Rattle.tracker.specs.Model as Tracked
-use Rattle.bank.specs.View.{given, view}
+use Rattle.bank.specs.View.{view}
 use borrow.Author.Tests.{lt-leb}
-use mathlib.Core.Option.{some, none}
+use mathlib.Core.Option.{some}
 use Rattle.tracker.specs.Parts.{other}
 use Rattle.bank_model.proofs.Ready.{centroid_logs}
 use Rattle.tracker.specs.Model as Tracked
-use Rattle.bank.proofs.inner.ready.on_ready.Reads as reads
-use Rattle.bank.proofs.inner.ready.on_ready.Lts as lts
-use Rattle.bank.proofs.inner.leave.unchanged.Reads as unchanged-reads
-use Rattle.bank.proofs.inner.ready.other_reading.Reads as other-reading-reads
-use Rattle.bank.proofs.inner.spawn.spawn.Reads as spawn-reads
-use Rattle.bank_model.proofs.inner.scores.log_of.Reads as log-of-reads
 use Rattle.bank.proofs.inner.ready.on_ready.Goals as goal
 
--- src/inner/ready.rt:133:9
 pub returns-then-b-lt2 : goal.returns-then-b-lt2
 returns-then-b-lt2 c = left_as _ _ _ (ready_off (view c.args.b) (Tracked.view c.args.p) _ (lt-leb 2 c.args.b.width c.if-b-lt2.true)) (unchanged_left c.args.b _ c.unchanged.ensures c.requires.sturdy)
 
--- src/inner/ready.rt:138:13
 pub log_of-lo-requires : goal.log_of-lo-requires
 log_of-lo-requires c = (centroid_logs c.args.p c.requires.t).0
 
--- src/inner/ready.rt:139:13
 pub log_of-hi-requires : goal.log_of-hi-requires
 log_of-hi-requires c = (centroid_logs c.args.p c.requires.t).1
 
--- src/inner/ready.rt:141:9
 pub spawn-requires : goal.spawn-requires
 spawn-requires c = record { sturdy = c.requires.sturdy; t = (c.other_reading-k.ensures.1, other_ready (Tracked.view c.args.p) _ _ c.other_reading-k.result.tracker c.if-k.true c.other_reading-k.ensures.0) }
 
--- src/inner/ready.rt:141:9
 pub returns-then-k : goal.returns-then-k
 returns-then-k c = left_as _ _ _ (ready_on (view c.args.b) (Tracked.view c.args.p) _ _ _ (some (Tracked.view c.other_reading-k.result.tracker)) (le-leb 2 c.args.b.width c.if-b-lt2.false) c.log_of-lo.ensures c.log_of-hi.ensures (sym (ap (λ (z : Bool). other z c.other_reading-k.result.tracker) c.if-k.true) ∙ c.other_reading-k.ensures.0)) c.spawn.ensures
 
--- src/inner/ready.rt:125:1
 pub returns : goal.returns
 returns c = left_as _ _ _ (ready_none (view c.args.b) (Tracked.view c.args.p) _ (le-leb 2 c.args.b.width c.if-b-lt2.false) (sym (ap (λ (z : Bool). other z c.other_reading-k.result.tracker) c.if-k.false) ∙ c.other_reading-k.ensures.0)) (unchanged_left c.args.b _ c.unchanged-2.ensures c.requires.sturdy)

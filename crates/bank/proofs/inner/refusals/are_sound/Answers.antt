@@ -1,7 +1,5 @@
 -- `bank::inner::refusals::are_sound` meets its contract. Assumes nothing.
 use Rattle.bank.proofs.Refusing.{both_hold, first_fails}
-use Rattle.std.proofs.Common.{rules}
-use Rattle.tracker.proofs.inner.sound.is_sound.Reads as inner-sound-is-sound-reads'
 use Rattle.bank.proofs.inner.refusals.are_sound.Goals as goal
 
 pub returns-then-is_sound : goal.returns-then-is_sound

@@ -1,6 +1,5 @@
 -- `bank::inner::refusals::clear_call` meets its contract. Assumes nothing.
 use Rattle.bank.proofs.Refusing.{guarded, unguarded}
-use Rattle.std.proofs.Common.{rules}
 use Rattle.bank.proofs.inner.refusals.clear_call.Goals as goal
 
 pub returns-then-is_sound : goal.returns-then-is_sound

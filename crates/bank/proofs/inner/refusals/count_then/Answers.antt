@@ -1,5 +1,5 @@
 -- `bank::inner::refusals::count_then` meets its contract. Assumes nothing.
-use Rattle.std.proofs.Common.{◌≡◌, sym, refl, ap, ◌∙◌, rules}
+use Rattle.std.proofs.Common.{sym, ◌∙◌}
 use Rattle.bank.proofs.inner.refusals.count_then.Goals as goal
 
 pub returns-then-is_full : goal.returns-then-is_full

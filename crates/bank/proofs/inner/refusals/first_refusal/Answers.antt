@@ -1,6 +1,5 @@
 -- `bank::inner::refusals::first_refusal` meets its contract. Assumes nothing.
-use Rattle.std.proofs.Common.{◌-◌, length, rules}
-use Rattle.bank.proofs.Refusing.{Passing, pass_begins, pass_fails, pass_turns, pass_ends}
+use Rattle.bank.proofs.Refusing.{pass_begins, pass_fails, pass_turns, pass_ends}
 use Rattle.bank.proofs.inner.refusals.first_refusal.Goals as goal
 
 pub loop-i-init : goal.loop-i-init

@@ -1,6 +1,6 @@
 -- `bank::inner::refusals::first_refusal` meets its contract. Assumes nothing.
-use Rattle.std.proofs.Common.{◌-◌, length, rules}
-use Rattle.bank.proofs.Refusing.{Passing, pass_begins, pass_fails, pass_turns, pass_ends}
+use Rattle.std.proofs.Common.{◌-◌, length}
+use Rattle.bank.proofs.Refusing.{Passing}
 use Rattle.bank.proofs.inner.refusals.first_refusal.Given as goal
 
 abbrev pub invariant-loop-i : goal.invariant-loop-i

@@ -1,5 +1,5 @@
 -- `bank::inner::refusals::heard_call` meets its contract. Assumes nothing.
-use Rattle.std.proofs.Common.{◌≡◌, sym, refl, ap, ◌∙◌, rules}
+use Rattle.std.proofs.Common.{ap, ◌∙◌}
 use Rattle.bank.proofs.Refusing.{guarded, unguarded}
 use Rattle.bank.specs.Answers.{count_then}
 use Rattle.bank.proofs.inner.refusals.heard_call.Goals as goal

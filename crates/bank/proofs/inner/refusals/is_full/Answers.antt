@@ -1,5 +1,5 @@
 -- `bank::inner::refusals::is_full` meets its contract. Assumes nothing.
-use Rattle.std.proofs.Common.{le-ltb, lt-ltb, le-leb}
+use Rattle.std.proofs.Common.{le-leb}
 use borrow.Author.Tests.{lt-leb}
 use Rattle.bank.proofs.inner.refusals.is_full.Goals as goal
 

@@ -1,5 +1,5 @@
 -- `bank::inner::refusals::marks_refusal` meets its contract. Assumes nothing.
-use Rattle.std.proofs.Common.{rules, le-ltb, lt-ltb, le-leb}
+use Rattle.std.proofs.Common.{le-leb}
 use borrow.Author.Tests.{lt-leb}
 use Rattle.bank.proofs.inner.refusals.marks_refusal.Goals as goal
 

@@ -1,5 +1,5 @@
 -- `bank::inner::refusals::switch_call` meets its contract. Assumes nothing.
-use Rattle.std.proofs.Common.{◌≡◌, sym, refl, ap, ◌∙◌, rules}
+use Rattle.std.proofs.Common.{ap, ◌∙◌}
 use Rattle.bank.proofs.Refusing.{guarded, unguarded}
 use Rattle.bank.specs.Answers.{choice_then}
 use Rattle.bank.proofs.inner.refusals.switch_call.Goals as goal

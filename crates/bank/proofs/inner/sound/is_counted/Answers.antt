@@ -1,5 +1,5 @@
 -- `bank::inner::sound::is_counted` meets its contract. Assumes nothing.
-use Rattle.std.proofs.Common.{le-ltb, lt-ltb, le-leb}
+use Rattle.std.proofs.Common.{le-leb}
 use borrow.Author.Tests.{lt-leb}
 use Rattle.bank.proofs.inner.sound.is_counted.Goals as goal
 

@@ -1,9 +1,9 @@
 -- `bank::inner::sound::is_crew_sound` meets its contract. Assumes nothing.
 use mathlib.Core.Bool.{not}
 use mathlib.Core.Path.{ap}
-use Rattle.std.proofs.Common.{◌≡◌, ◌-◌, length, arith, rules}
+use Rattle.std.proofs.Common.{◌≡◌, length, arith, rules}
 use Rattle.marks.proofs.Shifting.{unmapped}
-use Rattle.bank.proofs.Sounding.{Trying, try_begins, try_fails, try_turns, try_ends}
+use Rattle.bank.proofs.Sounding.{try_begins, try_fails, try_turns, try_ends}
 use Rattle.bank.proofs.inner.sound.is_crew_sound.Goals as goal
 
 pub loop-i-init : goal.loop-i-init

@@ -1,7 +1,6 @@
 -- `bank::inner::sound::is_crew_sound` meets its contract. Assumes nothing.
-use Rattle.std.proofs.Common.{◌≡◌, ◌-◌, length, arith, rules}
-use Rattle.marks.proofs.Shifting.{unmapped}
-use Rattle.bank.proofs.Sounding.{Trying, try_begins, try_fails, try_turns, try_ends}
+use Rattle.std.proofs.Common.{◌-◌}
+use Rattle.bank.proofs.Sounding.{Trying}
 use Rattle.bank.proofs.inner.sound.is_crew_sound.Given as goal
 
 abbrev pub invariant-loop-i : goal.invariant-loop-i

@@ -1,5 +1,4 @@
 -- `bank::inner::sound::is_gap_sound` meets its contract. Assumes nothing.
-use Rattle.std.proofs.Common.{rules}
 use Rattle.bank.proofs.inner.sound.is_gap_sound.Goals as goal
 
 pub returns-then-has : goal.returns-then-has

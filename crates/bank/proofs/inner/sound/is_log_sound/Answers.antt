@@ -1,8 +1,8 @@
 -- `bank::inner::sound::is_log_sound` meets its contract. Assumes nothing.
 use mathlib.Core.Bool.{not}
 use mathlib.Core.Path.{ap}
-use Rattle.std.proofs.Common.{◌≡◌, ◌-◌, length, take, refl, arith, rules}
-use Rattle.marks.proofs.Testing.{Testing, test_begins, test_turns, test_fails, test_ends, tested, places}
+use Rattle.std.proofs.Common.{◌≡◌, length, refl, arith, rules}
+use Rattle.marks.proofs.Testing.{test_begins, test_turns, test_fails, test_ends, tested, places}
 use Rattle.marks.proofs.Shifting.{unmapped}
 use Rattle.bank.specs.Sound.{record_sound}
 use Rattle.bank.proofs.inner.sound.is_log_sound.Goals as goal

@@ -1,7 +1,6 @@
 -- `bank::inner::sound::is_log_sound` meets its contract. Assumes nothing.
-use Rattle.std.proofs.Common.{◌≡◌, ◌-◌, length, take, refl, arith, rules}
-use Rattle.marks.proofs.Testing.{Testing, test_begins, test_turns, test_fails, test_ends, tested, places}
-use Rattle.marks.proofs.Shifting.{unmapped}
+use Rattle.std.proofs.Common.{◌≡◌, ◌-◌, length, take}
+use Rattle.marks.proofs.Testing.{Testing}
 use Rattle.bank.specs.Sound.{record_sound}
 use Rattle.bank.proofs.inner.sound.is_log_sound.Given as goal
 

@@ -1,5 +1,5 @@
 -- `bank::inner::sound::is_record_sound` meets its contract. Assumes nothing.
-use Rattle.std.proofs.Common.{◌≡◌, sym, refl, ap, ◌∙◌, rules}
+use Rattle.std.proofs.Common.{sym, ◌∙◌}
 use Rattle.bank_model.proofs.Tests.{and_of_taken}
 use Rattle.bank.proofs.inner.sound.is_record_sound.Goals as goal
 

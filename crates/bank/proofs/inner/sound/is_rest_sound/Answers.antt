@@ -1,5 +1,5 @@
 -- `bank::inner::sound::is_rest_sound` meets its contract. Assumes nothing.
-use Rattle.std.proofs.Common.{◌≡◌, sym, refl, ap, ◌∙◌, rules}
+use Rattle.std.proofs.Common.{sym, ◌∙◌}
 use Rattle.bank.proofs.Sounding.{counts}
 use Rattle.bank.proofs.inner.sound.is_rest_sound.Goals as goal
 

@@ -1,5 +1,5 @@
 -- `bank::inner::sound::is_sound` meets its contract. Assumes nothing.
-use Rattle.std.proofs.Common.{◌≡◌, length, sym, refl, ap, ◌∙◌, rules}
+use Rattle.std.proofs.Common.{◌≡◌, length, sym, ◌∙◌, rules}
 use Rattle.ranges.proofs.Compare.{passed}
 use Rattle.marks.proofs.Shifting.{unmapped}
 use Rattle.bank.proofs.Sounding.{counts, judged, crew_not, narrow_not, uncounted}

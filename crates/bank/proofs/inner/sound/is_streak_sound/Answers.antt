@@ -1,5 +1,5 @@
 -- `bank::inner::sound::is_streak_sound` meets its contract. Assumes nothing.
-use Rattle.std.proofs.Common.{◌≡◌, length, sym, refl, ap, ◌∙◌, arith, rules, le-ltb, lt-ltb, le-leb}
+use Rattle.std.proofs.Common.{◌≡◌, length, sym, ◌∙◌, arith, rules, le-leb}
 use borrow.Author.Tests.{lt-leb}
 use Rattle.marks.proofs.Cutting.{front_long}
 use Rattle.bank.proofs.inner.sound.is_streak_sound.Goals as goal

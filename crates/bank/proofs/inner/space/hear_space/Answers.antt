@@ -1,42 +1,28 @@
 -- `bank::inner::space::hear_space` meets its contract. Assumes nothing.
-use Rattle.std.proofs.Common.{◌≡◌, ◌-◌, T, rules}
-use Rattle.numbers.specs.Log.{ln_of}
 use Rattle.ranges.specs.Settings.{standard}
 use Rattle.ranges.specs.Limits.{duration_min, duration_max}
 use Rattle.ranges.proofs.Durations.{duration_positive}
-use Rattle.marks.specs.Lists.{duration}
 use Rattle.marks.proofs.Bounds.{inside}
 use Rattle.tracker.specs.Model as Tracked
-use Rattle.bank_model.specs.Steps.{gapped}
 use Rattle.rival.proofs.Each.{gap_scored}
-use Rattle.bank.proofs.Stock.{Mapping, map_begins, map_member, map_turns, map_ends}
+use Rattle.bank.proofs.Stock.{map_begins, map_member, map_turns, map_ends}
 use Rattle.bank.proofs.Beating.{space_is}
-use Rattle.bank.proofs.inner.space.hear_space.Reads as reads
-use Rattle.bank.proofs.inner.space.hear_space.Lts as lts
-use Rattle.bank_model.proofs.inner.scores.decayed.Reads as decayed-reads
-use Rattle.bank_model.proofs.inner.scores.gap_ll.Reads as gap-ll-reads
-use Rattle.bank_model.proofs.inner.scores.gap_logs.Reads as gap-logs-reads
-use Rattle.rival.proofs.inner.each.gap_one.Reads as gap-one-reads
 use Rattle.bank.proofs.inner.space.hear_space.Goals as goal
 
 pub gap_logs-k-requires : goal.gap_logs-k-requires
 gap_logs-k-requires c = (duration_positive c.args.d (inside duration_min duration_max c.args.d c.requires.t), c.requires.u_value.1)
 
--- src/inner/space.rt:42:5
 pub loop-i-init : goal.loop-i-init
 loop-i-init c =
     let s = c.before.before.before.before.before in
     (map_begins _ _ s.requires.sturdy.0.steady.crew, (s.requires.t, c.gap_logs-k.ensures.0))
 
--- src/inner/space.rt:44:13
 pub gap_one-f-requires : goal.gap_one-f-requires
 gap_one-f-requires c = record { fit = map_member _ _ _ _ _ c.loop-i-test.true c.loop-i.invariant.0; t = c.loop-i.invariant.1.0; x_value = c.loop-i.invariant.1.1 }
 
--- src/inner/space.rt:42:5
 pub loop-i-preserved : goal.loop-i-preserved
 loop-i-preserved c = (map_turns _ _ _ _ _ _ c.loop-i-test.true c.loop-i.invariant.0 c.gap_one-f.ensures, c.loop-i.invariant.1)
 
--- src/inner/space.rt:23:1
 pub returns : goal.returns
 returns c =
     let a = c.before.before in

@@ -1,22 +1,14 @@
-use Rattle.bank.proofs.Streaking.{extend_gap, extend_none, begun, emptied_is, goes_is, goes_short, grown, short_yes, short_no, candidate_is, marks_ready, candidate_ready, short_told, long_told}
-use Rattle.std.proofs.Common.{◌≡◌, Bool, true, false, length, sym, refl, ap, ◌∙◌, ltb→lt, rules}
-use Rattle.bank.specs.View.{given, view}
+use Rattle.bank.proofs.Streaking.{goes_short, grown}
+use Rattle.std.proofs.Common.{true, false, sym, ◌∙◌, ltb→lt}
+use Rattle.bank.specs.View.{given}
 use Rattle.ranges.proofs.Compare.{passed}
-use Rattle.bank.proofs.inner.streak.grow.Reads as reads
-use Rattle.bank.proofs.inner.streak.grow.Lts as lts
-use Rattle.bank.proofs.inner.streak.begin.Reads as begin-reads
-use Rattle.bank.proofs.inner.streak.extend.Reads as extend-reads
-use Rattle.bank.proofs.inner.streak.goes_on.Reads as goes-on-reads
 use Rattle.bank.proofs.inner.streak.grow.Goals as goal
 
--- src/inner/streak.rt:98:9
 pub extend-requires : goal.extend-requires
 extend-requires c = let l = c.requires.sturdy.steady.streaks.long in record { sturdy = c.requires.sturdy; fact = c.requires.fact; gap_in = c.requires.gap_in; streak_len_bound = ltb→lt c.args.b.streak_len 4 (passed (goes_short c.args.b c.requires.sturdy c.args.side l (sym c.goes_on.ensures ∙ c.if-goes_on.true))) }
 
--- src/inner/streak.rt:98:9
 pub returns-then-goes_on : goal.returns-then-goes_on
 returns-then-goes_on c = (grown c.args.b c.requires.sturdy true c.args.side c.args.d (given c.args.has_gap c.args.gap) c.extend.result (sym c.goes_on.ensures ∙ c.if-goes_on.true) c.extend.ensures.0, c.extend.ensures.1)
 
--- src/inner/streak.rt:91:1
 pub returns : goal.returns
 returns c = (grown c.args.b c.requires.sturdy false c.args.side c.args.d (given c.args.has_gap c.args.gap) c.begin.result (sym c.goes_on.ensures ∙ c.if-goes_on.false) c.begin.ensures.0, c.begin.ensures.1)

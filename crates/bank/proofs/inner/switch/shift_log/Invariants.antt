@@ -1,6 +1,6 @@
 -- `bank::inner::switch::shift_log` meets its contract. Assumes nothing.
-use Rattle.std.proofs.Common.{◌≡◌, ◌-◌, arith, rules}
-use Rattle.marks.proofs.Shifting.{Shifting, shift_begins, shift_turns, shift_ends}
+use Rattle.std.proofs.Common.{◌≡◌, ◌-◌}
+use Rattle.marks.proofs.Shifting.{Shifting}
 use Rattle.bank.proofs.inner.switch.shift_log.Given as goal
 
 abbrev pub invariant-loop-i : goal.invariant-loop-i

@@ -1,36 +1,26 @@
-use Rattle.bank.proofs.Exchanging.{log_room, log_full, dit_duration, it_fit, exchange_took, again, note_taken, call_exchange, call_observe, call_none, call_off, took_as}
-use Rattle.std.proofs.Common.{◌≡◌, sym, refl, ap, ◌∙◌, le-leb}
+use Rattle.bank.proofs.Exchanging.{call_exchange, call_observe, call_none, call_off, took_as}
+use Rattle.std.proofs.Common.{refl, ap, ◌∙◌, le-leb}
 use Rattle.tracker.specs.Model as Tracked
 use borrow.Author.Tests.{lt-leb}
 use Rattle.bank_model.specs.Model.{Bank}
 use Rattle.bank_model.specs.Steps.{untaken}
 use Rattle.tracker.specs.Model as Tracked
-use Rattle.bank.proofs.inner.switch.take_switch.Reads as reads
-use Rattle.bank.proofs.inner.switch.take_switch.Lts as lts
-use Rattle.bank.proofs.inner.switch.exchange.Reads as exchange-reads
-use Rattle.bank.proofs.inner.switch.observe.Reads as observe-reads
 use Rattle.bank.proofs.inner.switch.take_switch.Goals as goal
 
--- src/inner/switch.rt:164:17
 pub exchange-requires : goal.exchange-requires
 exchange-requires c = record { sturdy = c.requires.sturdy; t = (c.requires.t, c.requires.chosen c.if-b.true); i_bound = (c.requires.sturdy.pending c.if-b.true, refl) }
 
--- src/inner/switch.rt:164:17
 pub returns-then-b-2 : goal.returns-then-b-2
 returns-then-b-2 c = took_as _ _ _ _ _ (call_exchange c.args.b (Tracked.view c.args.p) c.args.serial (le-leb 2 c.args.b.width c.if-b-ge2.true) c.if-b.true c.if-b-2.true) c.exchange.ensures
 
--- src/inner/switch.rt:166:17
 pub observe-c-requires : goal.observe-c-requires
 observe-c-requires c = record { sturdy = c.requires.sturdy; t = (c.requires.t, c.requires.chosen c.if-b.true); i_bound = c.requires.sturdy.pending c.if-b.true }
 
--- src/inner/switch.rt:167:13
 pub returns-then-b : goal.returns-then-b
 returns-then-b c = record { is = ap (λ (m : Bank). untaken m (Tracked.view c.args.p) c.args.serial) c.observe-c.ensures.0 ∙ call_observe c.args.b (Tracked.view c.args.p) c.args.serial (le-leb 2 c.args.b.width c.if-b-ge2.true) c.if-b.true c.if-b-2.false; held = refl; sturdy = c.observe-c.ensures.1; primary = c.requires.t }
 
--- src/inner/switch.rt:154:1
 pub returns-else-b : goal.returns-else-b
 returns-else-b c = record { is = call_none c.args.b (Tracked.view c.args.p) c.args.serial (le-leb 2 c.args.b.width c.if-b-ge2.true) c.if-b.false; held = refl; sturdy = c.requires.sturdy; primary = c.requires.t }
 
--- src/inner/switch.rt:154:1
 pub returns-else-b-ge2 : goal.returns-else-b-ge2
 returns-else-b-ge2 c = record { is = call_off c.args.b (Tracked.view c.args.p) c.args.serial (lt-leb 2 c.args.b.width c.if-b-ge2.false); held = refl; sturdy = c.requires.sturdy; primary = c.requires.t }

@@ -1,16 +1,10 @@
-use borrow.Author.Rules.{rules}
-use Rattle.bank_model.proofs.inner.best.highest_of.Reads as reads
-use Rattle.bank_model.proofs.inner.best.highest_of.Lts as lts
 use Rattle.bank_model.proofs.inner.best.highest_of.Goals as goal
 
--- src/inner/best.rt:24:1
 pub returns-in-Unfound : goal.returns-in-Unfound
 returns-in-Unfound c = rw c.in-Unfound.is
 
--- src/inner/best.rt:24:1
 pub returns-then-t-s : goal.returns-then-t-s
 returns-then-t-s c = rw (c.in-Found.is, c.if-t-s.true)
 
--- src/inner/best.rt:24:1
 pub returns-else-t-s : goal.returns-else-t-s
 returns-else-t-s c = rw (c.in-Found.is, c.if-t-s.false)

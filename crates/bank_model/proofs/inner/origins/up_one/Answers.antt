@@ -1,13 +1,8 @@
 use borrow.Author.Tests.{lt-ltb, le-ltb}
-use borrow.Author.Rules.{rules}
-use Rattle.bank_model.proofs.inner.origins.up_one.Reads as reads
-use Rattle.bank_model.proofs.inner.origins.up_one.Lts as lts
 use Rattle.bank_model.proofs.inner.origins.up_one.Goals as goal
 
--- src/inner/origins.rt:7:1
 pub returns-then-n-lt4294967295 : goal.returns-then-n-lt4294967295
 returns-then-n-lt4294967295 c = rw (lt-ltb c.args.n 4294967295 c.if-n-lt4294967295.true)
 
--- src/inner/origins.rt:7:1
 pub returns-else-n-lt4294967295 : goal.returns-else-n-lt4294967295
 returns-else-n-lt4294967295 c = rw (le-ltb c.args.n 4294967295 c.if-n-lt4294967295.false)

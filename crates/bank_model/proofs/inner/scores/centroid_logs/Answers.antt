@@ -2,18 +2,11 @@
 use mathlib.Core.Path.{ap, ◌∙◌}
 use Rattle.numbers.specs.Log.{ln_of}
 use Rattle.bank_model.specs.Scores.{log_of}
-use borrow.Author.Rules.{rules}
-use Rattle.bank_model.proofs.inner.scores.centroid_logs.Reads as reads
-use Rattle.bank_model.proofs.inner.scores.centroid_logs.Lts as lts
-use Rattle.numbers.proofs.inner.ln_two.Reads as ln-two-reads
-use Rattle.order.proofs.max32.Reads as max32-reads
 use Rattle.bank_model.proofs.inner.scores.centroid_logs.Goals as goal
 
--- src/inner/scores.rt:36:5
 pub ln_two-requires : goal.ln_two-requires
 ln_two-requires c = let s = c.before.before in (rw c.max32.ensures s.requires.0, rw c.max32-2.ensures s.requires.1)
 
--- src/inner/scores.rt:32:1
 pub returns : goal.returns
 unfolding log_of
 returns c = let e = c.ln_two.ensures in (e.0 ∙ ap ln_of c.max32.ensures, e.1 ∙ ap ln_of c.max32-2.ensures)

@@ -1,5 +1,4 @@
 -- `journal_lines::inner::answer::answer` meets its contract. Assumes nothing.
-use borrow.Author.Rules.{rules}
 use Rattle.journal_lines.proofs.inner.answer.answer.Goals as goal
 
 pub answer_beside-requires : goal.answer_beside-requires

@@ -1,5 +1,4 @@
 -- `journal_lines::inner::answer::answer_before` meets its contract. Assumes nothing.
-use borrow.Author.Rules.{rules}
 use Rattle.journal_lines.proofs.inner.answer.answer_before.Goals as goal
 
 pub returns-in-Watch : goal.returns-in-Watch

@@ -1,6 +1,5 @@
 -- `journal_lines::inner::answer::bad_before` meets its contract. Assumes nothing.
 use Rattle.journal_lines.proofs.Answering.{answered_none}
-use borrow.Author.Rules.{rules}
 use Rattle.journal_lines.proofs.inner.answer.bad_before.Goals as goal
 
 pub returns : goal.returns

@@ -1,6 +1,5 @@
 -- `journal_lines::inner::answer::event` meets its contract. Assumes nothing.
 use Rattle.journal_lines.proofs.Answering.{answered_event}
-use borrow.Author.Rules.{rules}
 use Rattle.journal_lines.proofs.inner.answer.event.Goals as goal
 
 pub returns : goal.returns

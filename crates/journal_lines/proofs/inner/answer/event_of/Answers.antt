@@ -1,7 +1,6 @@
 -- `journal_lines::inner::answer::event_of` meets its contract. Assumes nothing.
 use mathlib.Core.Path.{ap, sym, ◌∙◌}
 use mathlib.Core.Bool.{true, false≢true}
-use borrow.Author.Rules.{rules}
 use Rattle.journal_lines.specs.Parts.{calls}
 use Rattle.journal_lines.proofs.inner.answer.event_of.Goals as goal
 

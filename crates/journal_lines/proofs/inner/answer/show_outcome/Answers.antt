@@ -1,6 +1,5 @@
 -- `journal_lines::inner::answer::show_outcome` meets its contract. Assumes nothing.
 use mathlib.Core.Path.{sym}
-use borrow.Author.Rules.{rules}
 use Rattle.journal_lines.proofs.inner.answer.show_outcome.Goals as goal
 
 pub returns : goal.returns

@@ -1,6 +1,5 @@
 -- `journal_lines::inner::answer::watch` meets its contract. Assumes nothing.
 use Rattle.journal_lines.proofs.Answering.{answered_opened, answered_wide}
-use borrow.Author.Rules.{rules}
 use Rattle.journal_lines.proofs.inner.answer.watch.Goals as goal
 
 pub returns-then-width-le8 : goal.returns-then-width-le8

@@ -1,5 +1,4 @@
 -- `journal_lines::inner::ends::end` meets its contract. Assumes nothing.
-use borrow.Author.Rules.{rules}
 use Rattle.journal_lines.proofs.Ending.{end_written}
 use Rattle.journal_lines.proofs.inner.ends.end.Goals as goal
 

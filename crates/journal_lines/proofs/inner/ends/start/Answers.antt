@@ -2,7 +2,6 @@
 use mathlib.Core.Path.{refl}
 use mathlib.Core.Bool.{false≢true}
 use native.Mathlib.Omega.{arith}
-use borrow.Author.Rules.{rules}
 use Rattle.journal_lines.proofs.Running.{promises}
 use Rattle.journal_lines.proofs.inner.ends.start.Goals as goal
 

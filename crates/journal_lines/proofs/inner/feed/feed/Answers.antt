@@ -1,14 +1,11 @@
 -- `journal_lines::inner::feed::feed` meets its contract. Assumes nothing.
 use native.Mathlib.Omega.{arith}
-use borrow.Author.Rules.{rules}
 use borrow.Author.Tests.{lt-leb}
-use Prim.Native.Nat.{◌-◌}
 use mathlib.Core.Path.{sym, ◌∙◌, subst}
-use lib.ListN.{length}
 use lib.Seq.{length-take-le}
 use Rattle.station.specs.declared.inner.pace.Way.{Way}
 use Rattle.station.specs.Pace.{Leads}
-use Rattle.journal_lines.proofs.Going.{Going, rest_room, within_size, go_begins, go_room, go_left, go_part, go_line, go_less, go_few, go_stops, go_ends}
+use Rattle.journal_lines.proofs.Going.{rest_room, within_size, go_begins, go_room, go_left, go_part, go_line, go_less, go_few, go_stops, go_ends}
 use Rattle.journal_lines.proofs.Answering.{answer_written, call_written, called_begun, called_event}
 use Rattle.journal_lines.proofs.inner.feed.feed.Goals as goal
 

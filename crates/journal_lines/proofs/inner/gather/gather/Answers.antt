@@ -1,9 +1,7 @@
 -- `journal_lines::inner::gather::gather` meets its contract. Assumes nothing.
-use Prim.Native.Nat.{◌-◌, ◌≤◌}
 use native.Mathlib.Omega.{arith}
 use borrow.Author.Rules.{rules}
-use lib.ListN.{length, take}
-use Rattle.journal_lines.proofs.Gathering.{Gathering, gather_begins, gather_stores, gather_passes, gather_newline, gather_ends, gather_spent}
+use Rattle.journal_lines.proofs.Gathering.{gather_begins, gather_stores, gather_passes, gather_newline, gather_ends, gather_spent}
 use Rattle.journal_lines.proofs.inner.gather.gather.Goals as goal
 
 pub returns-then-left-eq0 : goal.returns-then-left-eq0

@@ -1,9 +1,7 @@
 -- `journal_lines::inner::gather::gather` meets its contract. Assumes nothing.
 use Prim.Native.Nat.{◌-◌, ◌≤◌}
-use native.Mathlib.Omega.{arith}
-use borrow.Author.Rules.{rules}
 use lib.ListN.{length, take}
-use Rattle.journal_lines.proofs.Gathering.{Gathering, gather_begins, gather_stores, gather_passes, gather_newline, gather_ends, gather_spent}
+use Rattle.journal_lines.proofs.Gathering.{Gathering}
 use Rattle.journal_lines.proofs.inner.gather.gather.Given as goal
 
 abbrev pub invariant-loop-took : goal.invariant-loop-took

@@ -1,6 +1,5 @@
 -- `marks::inner::band::agree` meets its contract. Assumes nothing.
 use native.Mathlib.Omega.{arith}
-use borrow.Author.Rules.{rules}
 use Rattle.marks.proofs.Banding.{agrees, disagrees}
 use Rattle.marks.proofs.inner.band.agree.Goals as goal
 

@@ -1,10 +1,7 @@
 -- `marks::inner::band::banded` meets its contract. Assumes nothing.
 use mathlib.Core.Path.{refl, sym, ◌∙◌}
-use Prim.Native.Nat.{◌-◌}
 use native.Mathlib.Omega.{arith}
-use lib.ListN.{length}
-use borrow.Author.Rules.{rules}
-use Rattle.marks.proofs.Banding.{Banding, band_begins, band_takes, band_leaves, band_ends}
+use Rattle.marks.proofs.Banding.{band_begins, band_takes, band_leaves, band_ends}
 use Rattle.marks.proofs.inner.band.banded.Goals as goal
 
 pub loop-i-init : goal.loop-i-init

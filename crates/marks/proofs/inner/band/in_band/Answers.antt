@@ -1,7 +1,6 @@
 -- `marks::inner::band::in_band` meets its contract. Assumes nothing.
 use mathlib.Core.Path.{sym, ◌∙◌}
 use lib.Ieee.{div, of_bits}
-use borrow.Author.Rules.{rules}
 use Rattle.marks.proofs.inner.band.in_band.Goals as goal
 
 pub returns-then-lo-g : goal.returns-then-lo-g

@@ -1,7 +1,6 @@
 -- `marks::inner::cut::split` meets its contract. Assumes nothing.
 use Prim.Native.Nat.{◌+◌}
 use native.Mathlib.Omega.{arith}
-use borrow.Author.Rules.{rules}
 use Rattle.marks.proofs.Cutting.{cut_bound, front_long, front_asks, back_asks, halves}
 use Rattle.marks.proofs.inner.cut.split.Goals as goal
 

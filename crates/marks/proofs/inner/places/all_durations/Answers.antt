@@ -1,12 +1,9 @@
 -- `marks::inner::places::all_durations` meets its contract. Assumes nothing.
-use Prim.Native.Nat.{◌-◌}
 use native.Mathlib.Omega.{arith}
-use lib.ListN.{length}
 use mathlib.Core.Path.{ap}
 use mathlib.Core.Bool.{not}
-use borrow.Author.Rules.{rules}
 use Rattle.marks.specs.Lists.{duration}
-use Rattle.marks.proofs.Testing.{Testing, test_begins, test_turns, test_fails, test_ends}
+use Rattle.marks.proofs.Testing.{test_begins, test_turns, test_fails, test_ends}
 use Rattle.marks.proofs.inner.places.all_durations.Goals as goal
 
 pub loop-i-init : goal.loop-i-init

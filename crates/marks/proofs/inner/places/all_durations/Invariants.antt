@@ -1,10 +1,8 @@
 -- `marks::inner::places::all_durations` meets its contract. Assumes nothing.
 use Prim.Native.Nat.{◌-◌}
-use native.Mathlib.Omega.{arith}
 use lib.ListN.{length}
-use borrow.Author.Rules.{rules}
 use Rattle.marks.specs.Lists.{duration}
-use Rattle.marks.proofs.Testing.{Testing, test_begins, test_turns, test_fails, test_ends}
+use Rattle.marks.proofs.Testing.{Testing}
 use Rattle.marks.proofs.inner.places.all_durations.Given as goal
 
 abbrev pub invariant-loop-i : goal.invariant-loop-i

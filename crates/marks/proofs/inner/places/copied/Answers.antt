@@ -1,10 +1,7 @@
 -- `marks::inner::places::copied` meets its contract. Assumes nothing.
 use mathlib.Core.Path.{refl}
-use Prim.Native.Nat.{◌-◌}
 use native.Mathlib.Omega.{arith}
-use lib.ListN.{length}
-use borrow.Author.Rules.{rules}
-use Rattle.marks.proofs.Places.{Filling, fill_begins, fill_turns, fill_ends}
+use Rattle.marks.proofs.Places.{fill_begins, fill_turns, fill_ends}
 use Rattle.marks.proofs.inner.places.copied.Goals as goal
 
 pub loop-i-init : goal.loop-i-init

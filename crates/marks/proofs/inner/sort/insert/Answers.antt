@@ -1,8 +1,6 @@
 -- `marks::inner::sort::insert` meets its contract. Assumes nothing.
-use Prim.Native.Nat.{◌-◌}
 use native.Mathlib.Omega.{arith}
-use borrow.Author.Rules.{rules}
-use Rattle.marks.proofs.Sorting.{Inserting, insert_begins, insert_turns, insert_ends}
+use Rattle.marks.proofs.Sorting.{insert_begins, insert_turns, insert_ends}
 use Rattle.marks.proofs.inner.sort.insert.Goals as goal
 
 pub loop-i-init : goal.loop-i-init

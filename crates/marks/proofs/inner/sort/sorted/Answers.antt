@@ -1,8 +1,7 @@
 -- `marks::inner::sort::sorted` meets its contract. Assumes nothing.
-use Prim.Native.Nat.{◌-◌}
 use native.Mathlib.Omega.{arith}
 use borrow.Author.Rules.{rules}
-use Rattle.marks.proofs.Sorting.{Sorting, sort_begins, sort_turns, sort_ends}
+use Rattle.marks.proofs.Sorting.{sort_begins, sort_turns, sort_ends}
 use Rattle.marks.proofs.inner.sort.sorted.Goals as goal
 
 pub loop-i-init : goal.loop-i-init

@@ -1,8 +1,6 @@
 -- `marks::inner::sort::sorted` meets its contract. Assumes nothing.
 use Prim.Native.Nat.{◌-◌}
-use native.Mathlib.Omega.{arith}
-use borrow.Author.Rules.{rules}
-use Rattle.marks.proofs.Sorting.{Sorting, sort_begins, sort_turns, sort_ends}
+use Rattle.marks.proofs.Sorting.{Sorting}
 use Rattle.marks.proofs.inner.sort.sorted.Given as goal
 
 abbrev pub invariant-loop-i : goal.invariant-loop-i

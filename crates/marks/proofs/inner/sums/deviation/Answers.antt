@@ -1,6 +1,5 @@
 -- `marks::inner::sums::deviation` meets its contract. Assumes nothing.
 use native.Mathlib.Omega.{arith}
-use borrow.Author.Rules.{rules}
 use Rattle.ranges.proofs.Mean.{short_in}
 use Rattle.marks.proofs.inner.sums.deviation.Goals as goal
 

@@ -1,6 +1,5 @@
 -- `marks::inner::sums::mean` meets its contract. Assumes nothing.
 use mathlib.Core.Path.{ap, ◌∙◌}
-use borrow.Author.Rules.{rules}
 use Rattle.numbers.specs.Values.{narrow}
 use Rattle.marks.proofs.inner.sums.mean.Goals as goal
 

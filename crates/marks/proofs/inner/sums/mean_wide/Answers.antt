@@ -4,7 +4,6 @@ use native.Mathlib.Omega.{arith}
 use lib.Ieee.{Float, binary64, div, of_int}
 use lib.ListN.{length}
 use lib.IntN.{pos}
-use borrow.Author.Rules.{rules}
 use Rattle.ranges.proofs.Mean.{short_in}
 use Rattle.marks.proofs.inner.sums.mean_wide.Goals as goal
 

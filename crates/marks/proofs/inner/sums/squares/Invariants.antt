@@ -1,9 +1,7 @@
 -- `marks::inner::sums::squares` meets its contract. Assumes nothing.
 use Prim.Native.Nat.{◌-◌}
-use native.Mathlib.Omega.{arith}
 use lib.ListN.{length}
-use borrow.Author.Rules.{rules}
-use Rattle.marks.proofs.Summing.{Folding, squared, castable, squares_begin, squares_turn, folded}
+use Rattle.marks.proofs.Summing.{Folding, squared}
 use Rattle.marks.proofs.inner.sums.squares.Given as goal
 
 abbrev pub invariant-loop-i : goal.invariant-loop-i

@@ -1,9 +1,6 @@
 -- `marks::inner::sums::sum` meets its contract. Assumes nothing.
-use Prim.Native.Nat.{◌-◌}
 use native.Mathlib.Omega.{arith}
-use lib.ListN.{length}
-use borrow.Author.Rules.{rules}
-use Rattle.marks.proofs.Summing.{Folding, summed, castable, sum_begins, sum_turns, folded}
+use Rattle.marks.proofs.Summing.{summed, castable, sum_begins, sum_turns, folded}
 use Rattle.marks.proofs.inner.sums.sum.Goals as goal
 
 pub loop-i-init : goal.loop-i-init

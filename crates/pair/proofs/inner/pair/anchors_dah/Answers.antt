@@ -1,5 +1,4 @@
 -- `pair::inner::pair::anchors_dah` meets its contract. Assumes nothing.
-use borrow.Author.Rules.{rules}
 use Rattle.pair.proofs.inner.pair.anchors_dah.Goals as goal
 
 pub returns : goal.returns

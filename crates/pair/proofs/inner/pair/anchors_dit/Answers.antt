@@ -1,5 +1,4 @@
 -- `pair::inner::pair::anchors_dit` meets its contract. Assumes nothing.
-use borrow.Author.Rules.{rules}
 use Rattle.pair.proofs.inner.pair.anchors_dit.Goals as goal
 
 pub returns-then-p-2 : goal.returns-then-p-2

@@ -1,6 +1,5 @@
 -- `pair::inner::pair::constrain` meets its contract. Assumes nothing.
 use mathlib.Core.Path.{refl}
-use borrow.Author.Rules.{rules}
 use Rattle.pair.specs.Lock.{constrained}
 use Rattle.pair.proofs.inner.pair.constrain.Goals as goal
 

@@ -1,6 +1,5 @@
 -- `pair::inner::pair::learn` meets its contract. Assumes nothing.
 use mathlib.Core.Path.{refl, sym, ◌∙◌}
-use borrow.Author.Rules.{rules}
 use Rattle.pair.specs.Lock.{learnt}
 use Rattle.pair.proofs.inner.pair.learn.Goals as goal
 

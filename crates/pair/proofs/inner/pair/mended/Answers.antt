@@ -1,6 +1,5 @@
 -- `pair::inner::pair::mended` meets its contract. Assumes nothing.
 use mathlib.Core.Path.{sym, ◌∙◌}
-use borrow.Author.Rules.{rules}
 use Rattle.pair.proofs.inner.pair.mended.Goals as goal
 
 pub returns-then-within : goal.returns-then-within

@@ -1,6 +1,5 @@
 -- `pair::inner::pair::moved` meets its contract. Assumes nothing.
 use mathlib.Core.Path.{refl, sym, ◌∙◌}
-use borrow.Author.Rules.{rules}
 use Rattle.pair.proofs.inner.pair.moved.Goals as goal
 
 pub returns-then-below_root : goal.returns-then-below_root

@@ -1,6 +1,5 @@
 -- `pair::inner::readings::has_other` meets its contract. Assumes nothing.
 use mathlib.Core.Path.{ap, ◌∙◌}
-use borrow.Author.Rules.{rules}
 use Rattle.ranges.specs.Interval.{within}
 use Rattle.ranges.specs.Settings.{standard}
 use Rattle.pair.specs.Model.{Pair}

@@ -1,6 +1,5 @@
 -- `pair::inner::readings::unsure` meets its contract. Assumes nothing.
 use mathlib.Core.Path.{sym, ◌∙◌}
-use borrow.Author.Rules.{rules}
 use Rattle.pair.proofs.inner.readings.unsure.Goals as goal
 
 pub returns-then-is_finite32 : goal.returns-then-is_finite32

@@ -1,6 +1,5 @@
 -- `pair::inner::sound::are_centroids` meets its contract. Assumes nothing.
 use mathlib.Core.Path.{sym, ◌∙◌}
-use borrow.Author.Rules.{rules}
 use Rattle.ranges.proofs.Compare.{and_taken}
 use Rattle.pair.proofs.inner.sound.are_centroids.Goals as goal
 

@@ -1,6 +1,5 @@
 -- `pair::inner::sound::is_plus_zero` meets its contract. Assumes nothing.
 use lib.Ieee.{of_bits}
-use borrow.Author.Rules.{rules}
 use Rattle.pair.proofs.inner.sound.is_plus_zero.Goals as goal
 
 pub returns-then-x : goal.returns-then-x

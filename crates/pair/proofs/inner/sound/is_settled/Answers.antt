@@ -1,6 +1,5 @@
 -- `pair::inner::sound::is_settled` meets its contract. Assumes nothing.
 use mathlib.Core.Path.{◌∙◌}
-use borrow.Author.Rules.{rules}
 use Rattle.pair.proofs.inner.sound.is_settled.Goals as goal
 
 pub returns-then-p : goal.returns-then-p

@@ -1,13 +1,10 @@
 -- `ring::inner::drift::all_classed` meets its contract. Assumes nothing.
 use mathlib.Core.Bool.{not}
 use mathlib.Core.Path.{ap}
-use mathlib.Core.Path.{◌≡◌}
-use Prim.Native.Nat.{◌-◌}
 use native.Mathlib.Omega.{arith}
-use lib.ListN.{length}
 use borrow.Author.Rules.{rules}
 use Rattle.ring.specs.Ring.{classed}
-use Rattle.marks.proofs.Testing.{Testing, test_begins, test_turns, test_fails, test_ends}
+use Rattle.marks.proofs.Testing.{test_begins, test_turns, test_fails, test_ends}
 use Rattle.marks.proofs.Shifting.{unmapped}
 use Rattle.ring.proofs.inner.drift.all_classed.Goals as goal
 

@@ -1,5 +1,4 @@
 -- `ring::inner::drift::offset` meets its contract. Assumes nothing.
-use borrow.Author.Rules.{rules}
 use Rattle.ring.proofs.inner.drift.offset.Goals as goal
 
 pub returns : goal.returns

@@ -1,5 +1,4 @@
 -- `ring::inner::push::entry` meets its contract. Assumes nothing.
-use borrow.Author.Rules.{rules}
 use Rattle.ring.proofs.inner.push.entry.Goals as goal
 
 pub returns : goal.returns

@@ -1,6 +1,5 @@
 -- `ring::inner::sound::is_entry_sound` meets its contract. Assumes nothing.
 use mathlib.Core.Path.{sym, ◌∙◌}
-use borrow.Author.Rules.{rules}
 use Rattle.ranges.proofs.Compare.{and_taken}
 use Rattle.ring.proofs.inner.sound.is_entry_sound.Goals as goal
 

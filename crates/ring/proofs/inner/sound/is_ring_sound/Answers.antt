@@ -1,14 +1,13 @@
 -- `ring::inner::sound::is_ring_sound` meets its contract. Assumes nothing.
 use mathlib.Core.Bool.{not}
 use mathlib.Core.Path.{ap}
-use mathlib.Core.Path.{◌≡◌, refl}
-use Prim.Native.Nat.{◌-◌}
+use mathlib.Core.Path.{◌≡◌}
 use native.Mathlib.Omega.{arith}
-use lib.ListN.{length, take}
+use lib.ListN.{length}
 use borrow.Author.Rules.{rules}
 use Rattle.ranges.specs.Settings.{standard}
 use Rattle.ring.specs.Ring.{entry_sound}
-use Rattle.marks.proofs.Testing.{Testing, test_begins, test_turns, test_fails, test_ends, tested, places}
+use Rattle.marks.proofs.Testing.{test_begins, test_turns, test_fails, test_ends, tested, places}
 use Rattle.marks.proofs.Shifting.{unmapped}
 use Rattle.ring.proofs.inner.sound.is_ring_sound.Goals as goal
 

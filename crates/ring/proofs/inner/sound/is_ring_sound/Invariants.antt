@@ -1,13 +1,10 @@
 -- `ring::inner::sound::is_ring_sound` meets its contract. Assumes nothing.
-use mathlib.Core.Path.{◌≡◌, refl}
+use mathlib.Core.Path.{◌≡◌}
 use Prim.Native.Nat.{◌-◌}
-use native.Mathlib.Omega.{arith}
 use lib.ListN.{length, take}
-use borrow.Author.Rules.{rules}
 use Rattle.ranges.specs.Settings.{standard}
 use Rattle.ring.specs.Ring.{entry_sound}
-use Rattle.marks.proofs.Testing.{Testing, test_begins, test_turns, test_fails, test_ends, tested, places}
-use Rattle.marks.proofs.Shifting.{unmapped}
+use Rattle.marks.proofs.Testing.{Testing}
 use Rattle.ring.proofs.inner.sound.is_ring_sound.Given as goal
 
 abbrev pub invariant-loop-i : goal.invariant-loop-i

@@ -2,7 +2,6 @@
 use mathlib.Core.Path.{refl, sym, ◌∙◌}
 use mathlib.Core.Bool.{true, false}
 use Rattle.rival.proofs.Each.{twin_is, keeps, young}
-use borrow.Author.Rules.{rules}
 use Rattle.rival.proofs.inner.each.is_kept.Goals as goal
 
 pub returns-then-duplicates : goal.returns-then-duplicates

@@ -3,7 +3,6 @@ use Rattle.tracker.proofs.Stored.{unflagged_view}
 use Rattle.bank_model.proofs.Ready.{dit_above, dah_above, dit_log, dah_log}
 use Rattle.rival.specs.View.{view_hyp}
 use Rattle.rival.proofs.Each.{learnt_ready, learnt_is}
-use borrow.Author.Rules.{rules}
 use Rattle.rival.proofs.inner.each.learn_one.Goals as goal
 
 pub log_after-lo-requires : goal.log_after-lo-requires

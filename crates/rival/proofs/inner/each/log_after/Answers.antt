@@ -3,7 +3,6 @@ use mathlib.Core.Path.{ap, sym, ◌∙◌, subst}
 use lib.Dec.{T}
 use Rattle.bank_model.specs.Scores.{log_of}
 use Rattle.rival.proofs.Sounding.{positive_is}
-use borrow.Author.Rules.{rules}
 use Rattle.rival.proofs.inner.each.log_after.Goals as goal
 
 pub returns-then-is-was : goal.returns-then-is-was

@@ -1,9 +1,6 @@
 -- `rival::inner::sound::has_logs` meets its contract. Assumes nothing.
 use Rattle.rival.proofs.Sounding.{logs_agree, logs_differ}
-use mathlib.Core.Path.{◌≡◌, refl, ap, sym, ◌∙◌}
 use Rattle.bank_model.proofs.Ready.{dit_log, dah_log}
-use Rattle.bank_model.proofs.Tests.{and_of_taken, and_of_left}
-use borrow.Author.Rules.{rules}
 use Rattle.rival.proofs.inner.sound.has_logs.Goals as goal
 
 pub log_of-lo-requires : goal.log_of-lo-requires

@@ -1,7 +1,6 @@
 -- `rival::inner::sound::has_scores` meets its contract. Assumes nothing.
 use mathlib.Core.Path.{sym, ◌∙◌}
-use Rattle.bank_model.proofs.Tests.{and_of_taken, and_of_left}
-use borrow.Author.Rules.{rules}
+use Rattle.bank_model.proofs.Tests.{and_of_taken}
 use Rattle.rival.proofs.inner.sound.has_scores.Goals as goal
 
 pub returns-then-is_score : goal.returns-then-is_score

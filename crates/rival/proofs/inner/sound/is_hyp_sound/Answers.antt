@@ -1,8 +1,7 @@
 -- `rival::inner::sound::is_hyp_sound` meets its contract. Assumes nothing.
 use Rattle.rival.proofs.Sounding.{all_hold, unsound, unready, other_logs}
 use Rattle.ranges.proofs.Compare.{passed}
-use mathlib.Core.Path.{◌≡◌, refl, ap, sym, ◌∙◌}
-use borrow.Author.Rules.{rules}
+use mathlib.Core.Path.{sym, ◌∙◌}
 use Rattle.rival.proofs.inner.sound.is_hyp_sound.Goals as goal
 
 pub has_logs-requires : goal.has_logs-requires

@@ -2,9 +2,7 @@
 use lib.Dec.{T}
 use mathlib.Core.Path.{sym, subst}
 use Rattle.rival.proofs.Sounding.{agree, differ}
-use mathlib.Core.Path.{◌≡◌, refl, ap, sym, ◌∙◌}
-use borrow.Author.Rules.{rules}
-use Rattle.order.proofs.negative32.Reads as negative32-reads
+use mathlib.Core.Path.{sym}
 use Rattle.rival.proofs.inner.sound.is_same.Goals as goal
 
 pub returns-then-a-b : goal.returns-then-a-b

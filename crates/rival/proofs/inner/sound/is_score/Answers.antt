@@ -1,6 +1,5 @@
 -- `rival::inner::sound::is_score` meets its contract. Assumes nothing.
 use lib.Ieee.{of_bits}
-use borrow.Author.Rules.{rules}
 use Rattle.rival.proofs.inner.sound.is_score.Goals as goal
 
 pub returns : goal.returns

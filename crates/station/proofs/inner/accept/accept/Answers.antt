@@ -1,6 +1,5 @@
 -- `station::inner::accept::accept` meets its contract. Assumes nothing.
 use Rattle.station.proofs.Acting.{counts_small, accepts}
-use borrow.Author.Rules.{rules}
 use Rattle.station.proofs.inner.accept.accept.Goals as goal
 
 pub tally-counts-requires : goal.tally-counts-requires

@@ -2,7 +2,6 @@
 use mathlib.Core.Path.{ap, sym, ◌∙◌}
 use Rattle.station.specs.Parts.{one_more}
 use Rattle.station.proofs.Tallying.{more_twin, more_outscored, more_aged, more_replaced, more_cleared}
-use borrow.Author.Rules.{rules}
 use Rattle.station.proofs.inner.accept.count_one.Goals as goal
 
 pub returns-in-Twin : goal.returns-in-Twin

@@ -1,7 +1,6 @@
 -- `station::inner::accept::done` meets its contract. Assumes nothing.
 use mathlib.Core.Path.{ap}
 use mathlib.Core.List.{List}
-use borrow.Author.Rules.{rules}
 use Rattle.bank_model.specs.declared.Departure.{Departure}
 use Rattle.station_model.specs.declared.Code.{Code}
 use Rattle.station.specs.declared.Station.{Station}

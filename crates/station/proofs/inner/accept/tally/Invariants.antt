@@ -1,13 +1,10 @@
 -- `station::inner::accept::tally` meets its contract. Assumes nothing.
 use mathlib.Core.Path.{◌≡◌}
 use Prim.Native.Nat.{◌-◌, ◌≤◌}
-use native.Mathlib.Omega.{arith}
 use lib.ListN.{length}
-use Rattle.marks.proofs.Shifting.{unmapped}
 use Rattle.bank.specs.Parts.{most_left}
 use Rattle.station.specs.Parts.{AtMost}
-use Rattle.station.proofs.Tallying.{Tallying, tally_begins, tally_turns, tally_ends, tally_small}
-use borrow.Author.Rules.{rules}
+use Rattle.station.proofs.Tallying.{Tallying}
 use Rattle.station.proofs.inner.accept.tally.Given as goal
 
 abbrev pub invariant-loop-i : goal.invariant-loop-i

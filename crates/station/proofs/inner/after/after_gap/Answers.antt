@@ -4,7 +4,6 @@ use Rattle.station_model.specs.declared.Code.TheVariants.{Done}
 use Rattle.station.specs.View.{view}
 use Rattle.station.proofs.Acting.{gap_is, gap_not}
 use Rattle.station.proofs.Moving.{holds}
-use borrow.Author.Rules.{rules}
 use Rattle.station.proofs.inner.after.after_gap.Goals as goal
 
 pub returns-then-s : goal.returns-then-s

@@ -5,7 +5,6 @@ use Rattle.station_model.specs.declared.Code.TheVariants.{Done}
 use Rattle.station.specs.View.{view}
 use Rattle.station.proofs.Acting.{as_both}
 use Rattle.station.proofs.Moving.{holds}
-use borrow.Author.Rules.{rules}
 use Rattle.station.proofs.inner.after.after_hint.Goals as goal
 
 pub returns : goal.returns

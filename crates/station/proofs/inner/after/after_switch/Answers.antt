@@ -5,7 +5,6 @@ use Rattle.bank.specs.View.{given}
 use Rattle.station_model.specs.Station.{switch_act}
 use Rattle.station.specs.View.{view}
 use Rattle.station.proofs.Moving.{holds, idle}
-use borrow.Author.Rules.{rules}
 use Rattle.station.proofs.inner.after.after_switch.Goals as goal
 
 pub returns-then-s : goal.returns-then-s

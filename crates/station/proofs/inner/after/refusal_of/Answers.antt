@@ -1,6 +1,5 @@
 -- `station::inner::after::refusal_of` meets its contract. Assumes nothing.
 use mathlib.Core.Path.{sym, ◌∙◌}
-use borrow.Author.Rules.{rules}
 use Rattle.station.proofs.inner.after.refusal_of.Goals as goal
 
 pub returns-then-is_full : goal.returns-then-is_full

@@ -2,7 +2,6 @@
 use mathlib.Core.Path.{sym, ◌∙◌}
 use Rattle.station.proofs.Refusing.{accepted_of, accepted_open, accepted_fair}
 use Rattle.station.proofs.Answering.{answers, answers_kept}
-use borrow.Author.Rules.{rules}
 use Rattle.station.proofs.inner.call.call.Goals as goal
 
 pub step-requires : goal.step-requires

@@ -1,6 +1,5 @@
 -- `station::inner::call::next` meets its contract. Assumes nothing.
 use Rattle.station.proofs.Steadying.{steady_next}
-use borrow.Author.Rules.{rules}
 use Rattle.station.proofs.inner.call.next.Goals as goal
 
 pub returns : goal.returns

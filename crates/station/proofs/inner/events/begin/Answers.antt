@@ -1,5 +1,4 @@
 -- `station::inner::events::begin` meets its contract. Assumes nothing.
-use Rattle.marks.proofs.Shifting.{unmapped}
 use mathlib.Core.Path.{◌≡◌}
 use native.Mathlib.Omega.{arith}
 use lib.ListN.{length}

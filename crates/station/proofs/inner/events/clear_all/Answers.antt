@@ -2,7 +2,6 @@
 use Rattle.ranges.specs.Settings.{standard}
 use Rattle.station.proofs.Acting.{turn, as_told}
 use Rattle.station.specs.View.{view}
-use borrow.Author.Rules.{rules}
 use Rattle.station.proofs.inner.events.clear_all.Goals as goal
 
 pub returns : goal.returns

@@ -3,7 +3,6 @@ use mathlib.Core.Path.{sym, ◌∙◌}
 use Rattle.ranges.specs.Settings.{standard}
 use Rattle.station.proofs.Acting.{turn, finish_is, finish_not}
 use Rattle.station.specs.View.{view}
-use borrow.Author.Rules.{rules}
 use Rattle.station.proofs.inner.events.finish.Goals as goal
 
 pub returns-then-can_begin : goal.returns-then-can_begin

@@ -2,7 +2,6 @@
 use Rattle.ranges.specs.Settings.{standard}
 use Rattle.station.specs.View.{view}
 use Rattle.station.proofs.Moving.{none_leave, gap_quiet}
-use borrow.Author.Rules.{rules}
 use Rattle.station.proofs.inner.events.gap.Goals as goal
 
 pub returns : goal.returns

@@ -1,7 +1,6 @@
 -- `station::inner::events::hint` meets its contract. Assumes nothing.
 use mathlib.Core.Path.{refl}
 use Rattle.station.proofs.Moving.{none_leave}
-use borrow.Author.Rules.{rules}
 use Rattle.station.proofs.inner.events.hint.Goals as goal
 
 pub returns : goal.returns

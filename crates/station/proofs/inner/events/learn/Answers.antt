@@ -2,7 +2,6 @@
 use Rattle.ranges.specs.Settings.{standard}
 use Rattle.station.proofs.Acting.{turn, learnt_is, learnt_not}
 use Rattle.station.specs.View.{view}
-use borrow.Author.Rules.{rules}
 use Rattle.station.proofs.inner.events.learn.Goals as goal
 
 pub returns-then-q : goal.returns-then-q

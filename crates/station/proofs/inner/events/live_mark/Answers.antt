@@ -2,7 +2,6 @@
 use Rattle.ranges.specs.Settings.{standard}
 use Rattle.station.proofs.Acting.{turn, live_is, live_not}
 use Rattle.station.specs.View.{view}
-use borrow.Author.Rules.{rules}
 use Rattle.station.proofs.inner.events.live_mark.Goals as goal
 
 pub returns-then-was : goal.returns-then-was

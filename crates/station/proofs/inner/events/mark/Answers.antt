@@ -1,5 +1,4 @@
 -- `station::inner::events::mark` meets its contract. Assumes nothing.
-use borrow.Author.Rules.{rules}
 use Rattle.station.proofs.inner.events.mark.Goals as goal
 
 pub returns-then-live : goal.returns-then-live

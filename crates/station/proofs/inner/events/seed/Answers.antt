@@ -3,7 +3,6 @@ use mathlib.Core.Bool.{true, false}
 use Rattle.ranges.specs.Settings.{standard}
 use Rattle.station.proofs.Acting.{turn, seed_is}
 use Rattle.station.specs.View.{view}
-use borrow.Author.Rules.{rules}
 use Rattle.station.proofs.inner.events.seed.Goals as goal
 
 pub returns-then-was : goal.returns-then-was

@@ -1,6 +1,5 @@
 -- `station::inner::events::step` meets its contract. Assumes nothing.
 use Rattle.station.proofs.Acting.{event_fair, event_is}
-use borrow.Author.Rules.{rules}
 use Rattle.station.proofs.inner.events.step.Goals as goal
 
 pub mark-requires : goal.mark-requires

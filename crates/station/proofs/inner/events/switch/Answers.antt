@@ -7,7 +7,6 @@ use Rattle.station_model.specs.Station as Model
 use Rattle.station.specs.View.{view}
 use Rattle.station.proofs.Coding.{coded_switch}
 use Rattle.station.proofs.Moving.{none_leave}
-use borrow.Author.Rules.{rules}
 use Rattle.station.proofs.inner.events.switch.Goals as goal
 
 pub returns : goal.returns

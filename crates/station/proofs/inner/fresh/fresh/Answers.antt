@@ -1,6 +1,5 @@
 -- `station::inner::fresh::fresh` meets its contract. Assumes nothing.
 use Rattle.station.proofs.Keeping.{fresh_is}
-use borrow.Author.Rules.{rules}
 use Rattle.station.proofs.inner.fresh.fresh.Goals as goal
 
 pub returns : goal.returns

@@ -5,17 +5,8 @@ use Rattle.station.specs.View.{view}
 use Rattle.station.proofs.Acting.{turn, live_is}
 use Rattle.station.proofs.Moving.{ready_for}
 use Rattle.station.proofs.Pacing.{stands_next, heard_ready, beat_ready, beat_heard}
-use borrow.Author.Rules.{rules}
-use Rattle.station.proofs.inner.pace.beat.Reads as reads
-use Rattle.station.proofs.inner.pace.beat.Lts as lts
-use Rattle.bank.proofs.inner.beat.hear_beat.Reads as hear-beat-reads
-use Rattle.bank.proofs.inner.streak.is_high.Reads as is-high-reads
-use Rattle.bank_model.proofs.inner.scores.centroid_logs.Reads as centroid-logs-reads
-use Rattle.station.proofs.inner.accept.accept.Reads as accept-reads
-use Rattle.tracker.proofs.inner.mark.on_mark.Reads as on-mark-reads
 use Rattle.station.proofs.inner.pace.beat.Goals as goal
 
--- src/inner/pace.rt:123:9
 pub on_mark-p-requires : goal.on_mark-p-requires
 on_mark-p-requires c = let s = c in record { t = s.requires.0.solid.primary; t_2 = (ready_for s.args.s s.args.e s.requires.0 s.requires.1.free s.requires.1.is).1 }
 
@@ -26,21 +17,18 @@ centroid_logs-k-requires c =
     let r = beat_ready s.args.s s.requires.1.heard s.args.d k.result k.ensures.0 in
     (dit_log k.result k.ensures.1 r, dah_log k.result k.ensures.1 r)
 
--- src/inner/pace.rt:128:9
 pub hear_beat-t-requires : goal.hear_beat-t-requires
 hear_beat-t-requires c =
     let s = c.before.before.before.before in
     let g = ready_for s.args.s s.args.e s.requires.0 s.requires.1.free s.requires.1.is in
     record { sturdy = (s.requires.0.solid.bank, g.0.1.bank); t = g.1; lo_value = c.centroid_logs-k.ensures; side_value = (c.is_high-side.ensures, s.requires.1.few) }
 
--- src/inner/pace.rt:129:5
 pub accept-requires : goal.accept-requires
 accept-requires c =
     let s = c.before.before.before.before.before in
     let h = c.hear_beat-t.ensures in
     record { solid = (ready_for s.args.s s.args.e s.requires.0 s.requires.1.free s.requires.1.is).0; t = c.on_mark-p.ensures.1; sturdy = (h.sturdy, h.listed) }
 
--- src/inner/pace.rt:119:1
 pub returns : goal.returns
 returns c =
     let h = c.hear_beat-t in

@@ -1,15 +1,9 @@
 -- `station::inner::pace::gap_way` meets its contract. Assumes nothing.
-use mathlib.Core.Path.{◌≡◌, refl, ap, sym, ◌∙◌}
+use mathlib.Core.Path.{refl, ap, sym, ◌∙◌}
 use lib.Ieee.{Float, binary32, mul, le}
 use Rattle.bank_model.specs.Constants.{pause_dits}
-use borrow.Author.Rules.{rules}
-use Rattle.station.proofs.inner.pace.gap_way.Reads as reads
-use Rattle.station.proofs.inner.pace.gap_way.Lts as lts
-use Rattle.station.proofs.inner.pace.is_heard.Reads as is-heard-reads
-use Rattle.tracker.proofs.inner.speed.dit_estimate.Reads as dit-estimate-reads
 use Rattle.station.proofs.inner.pace.gap_way.Goals as goal
 
--- src/inner/pace.rt:71:9
 pub returns-then-is_heard : goal.returns-then-is_heard
 returns-then-is_heard c =
     let s = c.before.before.before.before in

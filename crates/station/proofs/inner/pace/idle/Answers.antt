@@ -5,20 +5,14 @@ use Rattle.station_model.specs.Station.{switch_act}
 use Rattle.bank_model.specs.Steps.{Taken}
 use Rattle.station.proofs.Moving.{ready_for, holds, none_leave}
 use Rattle.station.proofs.Pacing.{stands_next, idle_taken}
-use borrow.Author.Rules.{rules}
-use Rattle.station.proofs.inner.pace.idle.Reads as reads
-use Rattle.station.proofs.inner.pace.idle.Lts as lts
-use Rattle.station.proofs.inner.accept.done.Reads as done-reads
 use Rattle.station.proofs.inner.pace.idle.Goals as goal
 
--- src/inner/pace.rt:112:19
 pub overflow_add-station : goal.overflow_add-station
 overflow_add-station c =
     let s = c.before in
     let o = (ready_for s.args.s s.args.e s.requires.0 s.requires.1.free s.requires.1.is).0.1.accepted in
     omega arith
 
--- src/inner/pace.rt:107:1
 pub returns : goal.returns
 returns c =
     let s = c.before.before.before.before.before in

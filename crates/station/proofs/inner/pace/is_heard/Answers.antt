@@ -1,14 +1,10 @@
 -- `station::inner::pace::is_heard` meets its contract. Assumes nothing.
 use mathlib.Core.Path.{sym, ◌∙◌}
 use Rattle.ranges.proofs.Compare.{and_taken, and_left}
-use Rattle.station.proofs.inner.pace.is_heard.Reads as reads
-use Rattle.station.proofs.inner.pace.is_heard.Lts as lts
 use Rattle.station.proofs.inner.pace.is_heard.Goals as goal
 
--- src/inner/pace.rt:42:9
 pub returns-then-s : goal.returns-then-s
 returns-then-s c = and_taken c.args.s.primary.pair.ready _ c.if-s.true
 
--- src/inner/pace.rt:38:1
 pub returns : goal.returns
 returns c = let e = c.if-s.false in sym e ∙ and_left c.args.s.primary.pair.ready _ e

@@ -1,5 +1,5 @@
 -- `station::inner::pace::space` meets its contract. Assumes nothing.
-use mathlib.Core.Path.{◌≡◌, sym, ◌∙◌, subst}
+use mathlib.Core.Path.{sym, ◌∙◌, subst}
 use native.Mathlib.Omega.{arith}
 use lib.Dec.{T}
 use lib.Ieee.{Float}
@@ -12,16 +12,8 @@ use Rattle.station.specs.View.{view}
 use Rattle.station.proofs.Acting.{gap_is}
 use Rattle.station.proofs.Moving.{ready_for, holds, none_leave, gap_quiet}
 use Rattle.station.proofs.Pacing.{stands_next, heard_ready, space_heard}
-use borrow.Author.Rules.{rules}
-use Rattle.station.proofs.inner.pace.space.Reads as reads
-use Rattle.station.proofs.inner.pace.space.Lts as lts
-use Rattle.bank.proofs.inner.space.hear_space.Reads as hear-space-reads
-use Rattle.rival.proofs.inner.each.hear_one.Reads as hear-one-reads
-use Rattle.station.proofs.inner.accept.done.Reads as done-reads
-use Rattle.tracker.proofs.inner.speed.dit_estimate.Reads as dit-estimate-reads
 use Rattle.station.proofs.inner.pace.space.Goals as goal
 
--- src/inner/pace.rt:138:9
 pub hear_space-bank-requires : goal.hear_space-bank-requires
 hear_space-bank-requires c =
     let s = c.before in
@@ -29,18 +21,15 @@ hear_space-bank-requires c =
     let u = c.dit_estimate-unit.ensures in
     record { sturdy = (s.requires.0.solid.bank, g.0.1.bank); t = g.1; u_value = (u, subst (λ (x : Float). T (positive (larger x milli))) (sym u) (estimate_positive s.args.s.primary s.requires.0.solid.primary (heard_ready s.args.s s.requires.1.heard))) }
 
--- src/inner/pace.rt:139:9
 pub hear_one-primary-requires : goal.hear_one-primary-requires
 hear_one-primary-requires c = let s = c.before.before in record { t = s.requires.0.solid.primary; t_2 = (ready_for s.args.s s.args.e s.requires.0 s.requires.1.free s.requires.1.is).1; unit_value = c.dit_estimate-unit.ensures }
 
--- src/inner/pace.rt:146:19
 pub overflow_add-station : goal.overflow_add-station
 overflow_add-station c =
     let s = c.before.before.before.before.before in
     let o = (ready_for s.args.s s.args.e s.requires.0 s.requires.1.free s.requires.1.is).0.1.accepted in
     omega arith
 
--- src/inner/pace.rt:133:1
 pub returns : goal.returns
 returns c =
     let b = c.hear_space-bank in

@@ -2,7 +2,6 @@
 use mathlib.Core.Path.{refl, sym, ◌∙◌}
 use mathlib.Core.Bool.{true, false}
 use Rattle.station.proofs.Refusing.{solid_by}
-use borrow.Author.Rules.{rules}
 use Rattle.station.proofs.inner.refusals.call_refusal.Goals as goal
 
 pub returns-then-is_full : goal.returns-then-is_full

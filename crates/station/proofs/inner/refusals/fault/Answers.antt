@@ -1,5 +1,4 @@
 -- `station::inner::refusals::fault` meets its contract. Assumes nothing.
-use borrow.Author.Rules.{rules}
 use Rattle.station.proofs.inner.refusals.fault.Goals as goal
 
 pub returns-in-Mark : goal.returns-in-Mark

@@ -1,5 +1,4 @@
 -- `station::inner::refusals::is_choice_sound` meets its contract. Assumes nothing.
-use borrow.Author.Rules.{rules}
 use Rattle.station.proofs.inner.refusals.is_choice_sound.Goals as goal
 
 pub returns-in-Mark : goal.returns-in-Mark

@@ -1,12 +1,7 @@
 -- `station::inner::sound::all_differ` meets its contract. Assumes nothing.
-use mathlib.Core.Path.{refl, ap, sym}
-use mathlib.Core.Bool.{true, false, not}
 use Prim.Native.Nat.{◌-◌}
-use native.Mathlib.Omega.{arith}
-use borrow.Author.Rules.{rules}
-use borrow.Author.Tests.{eq-eqb, ne_eqb}
 use lib.ListN.{length}
-use Rattle.marks.proofs.Testing.{Testing, test_begins, test_turns, test_fails, test_ends}
+use Rattle.marks.proofs.Testing.{Testing}
 use Rattle.station.specs.Sound.{differs}
 use Rattle.station.proofs.inner.sound.all_differ.Given as goal
 

@@ -1,11 +1,8 @@
 -- `station::inner::sound::are_distinct` meets its contract. Assumes nothing.
 use mathlib.Core.Bool.{not}
 use mathlib.Core.Path.{ap}
-use Prim.Native.Nat.{◌-◌}
 use native.Mathlib.Omega.{arith}
-use borrow.Author.Rules.{rules}
-use lib.ListN.{length}
-use Rattle.station.proofs.Serials.{Parting, part_begins, part_turns, part_fails, part_ends}
+use Rattle.station.proofs.Serials.{part_begins, part_turns, part_fails, part_ends}
 use Rattle.station.proofs.inner.sound.are_distinct.Goals as goal
 
 pub loop-i-init : goal.loop-i-init

@@ -1,9 +1,7 @@
 -- `station::inner::sound::are_distinct` meets its contract. Assumes nothing.
 use Prim.Native.Nat.{◌-◌}
-use native.Mathlib.Omega.{arith}
-use borrow.Author.Rules.{rules}
 use lib.ListN.{length}
-use Rattle.station.proofs.Serials.{Parting, part_begins, part_turns, part_fails, part_ends}
+use Rattle.station.proofs.Serials.{Parting}
 use Rattle.station.proofs.inner.sound.are_distinct.Given as goal
 
 abbrev pub invariant-loop-i : goal.invariant-loop-i

@@ -1,6 +1,5 @@
 -- `station::inner::sound::are_held_once` meets its contract. Assumes nothing.
 use mathlib.Core.Path.{sym, ◌∙◌}
-use borrow.Author.Rules.{rules}
 use Rattle.station.proofs.inner.sound.are_held_once.Goals as goal
 
 pub returns-then-are_up_to : goal.returns-then-are_up_to

@@ -1,12 +1,9 @@
 -- `station::inner::sound::are_up_to` meets its contract. Assumes nothing.
 use mathlib.Core.Path.{refl, sym}
 use mathlib.Core.Bool.{true, false}
-use Prim.Native.Nat.{◌-◌}
 use native.Mathlib.Omega.{arith}
-use borrow.Author.Rules.{rules}
 use borrow.Author.Tests.{le-leb, lt-leb}
-use lib.ListN.{length}
-use Rattle.marks.proofs.Testing.{Testing, test_begins, test_turns, test_fails, test_ends}
+use Rattle.marks.proofs.Testing.{test_begins, test_turns, test_fails, test_ends}
 use Rattle.station.specs.Sound.{up_to}
 use Rattle.station.proofs.inner.sound.are_up_to.Goals as goal
 

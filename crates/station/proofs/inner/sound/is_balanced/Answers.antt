@@ -1,6 +1,5 @@
 -- `station::inner::sound::is_balanced` meets its contract. Assumes nothing.
 use Rattle.station.proofs.Sounding.{short_held, short_twins, short_outscored, short_aged, short_replaced, last_cleared}
-use borrow.Author.Rules.{rules}
 use Rattle.station.proofs.inner.sound.is_balanced.Goals as goal
 
 pub returns-then-n-held : goal.returns-then-n-held

@@ -4,7 +4,6 @@ use native.Mathlib.Omega.{arith}
 use Prim.Native.Nat.{◌+◌}
 use lib.Seq.{length-take-le}
 use Rattle.station.proofs.Sounding.{own_is, own_late, own_not}
-use borrow.Author.Rules.{rules}
 use Rattle.station.proofs.inner.sound.is_own_sound.Goals as goal
 
 pub slice_bounds-are_held_once-end : goal.slice_bounds-are_held_once-end

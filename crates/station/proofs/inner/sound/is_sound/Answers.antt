@@ -1,7 +1,6 @@
 -- `station::inner::sound::is_sound` meets its contract. Assumes nothing.
 use mathlib.Core.Path.{sym, ◌∙◌}
 use Rattle.station.proofs.Sounding.{judged, unbanked, untracked}
-use borrow.Author.Rules.{rules}
 use Rattle.station.proofs.inner.sound.is_sound.Goals as goal
 
 pub is_own_sound-requires : goal.is_own_sound-requires

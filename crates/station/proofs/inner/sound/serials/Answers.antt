@@ -1,11 +1,7 @@
 -- `station::inner::sound::serials` meets its contract. Assumes nothing.
-use mathlib.Core.Path.{◌≡◌, refl}
-use Prim.Native.Nat.{◌-◌}
+use mathlib.Core.Path.{refl}
 use native.Mathlib.Omega.{arith}
-use borrow.Author.Rules.{rules}
-use lib.ListN.{get_or}
-use Rattle.bank.specs.Parts.{Sturdy}
-use Rattle.station.proofs.Serials.{Collecting, collect_begins, collect_turns, collect_ends}
+use Rattle.station.proofs.Serials.{collect_begins, collect_turns, collect_ends}
 use Rattle.station.proofs.inner.sound.serials.Goals as goal
 
 pub loop-i-init : goal.loop-i-init

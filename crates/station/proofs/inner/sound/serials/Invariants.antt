@@ -1,11 +1,9 @@
 -- `station::inner::sound::serials` meets its contract. Assumes nothing.
-use mathlib.Core.Path.{◌≡◌, refl}
+use mathlib.Core.Path.{◌≡◌}
 use Prim.Native.Nat.{◌-◌}
-use native.Mathlib.Omega.{arith}
-use borrow.Author.Rules.{rules}
 use lib.ListN.{get_or}
 use Rattle.bank.specs.Parts.{Sturdy}
-use Rattle.station.proofs.Serials.{Collecting, collect_begins, collect_turns, collect_ends}
+use Rattle.station.proofs.Serials.{Collecting}
 use Rattle.station.proofs.inner.sound.serials.Given as goal
 
 abbrev pub invariant-loop-i : goal.invariant-loop-i

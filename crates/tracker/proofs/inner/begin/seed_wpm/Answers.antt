@@ -1,5 +1,5 @@
 -- `tracker::inner::begin::seed_wpm` meets its contract. Assumes nothing.
-use Rattle.std.proofs.Common.{true, [], ap, ◌∙◌, rules}
+use Rattle.std.proofs.Common.{true, [], ap, ◌∙◌}
 use mathlib.Core.Option.{none}
 use Rattle.ranges.proofs.Standard.{standard_good, standard_held}
 use Rattle.ranges.specs.Settings.{standard}

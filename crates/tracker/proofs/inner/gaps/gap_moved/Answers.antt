@@ -1,5 +1,4 @@
 -- `tracker::inner::gaps::gap_moved` meets its contract. Assumes nothing.
-use Rattle.std.proofs.Common.{rules}
 use Rattle.tracker.proofs.inner.gaps.gap_moved.Goals as goal
 
 pub returns-then-has_egap : goal.returns-then-has_egap

@@ -1,5 +1,4 @@
 -- `tracker::inner::gaps::on_element_gap` meets its contract. Assumes nothing.
-use Rattle.std.proofs.Common.{rules}
 use Rattle.ranges.proofs.Compare.{passed}
 use Rattle.ranges.proofs.Standard.{standard_good, standard_held}
 use Rattle.ranges.specs.Settings.{standard}

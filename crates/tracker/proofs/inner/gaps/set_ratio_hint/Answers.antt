@@ -1,5 +1,5 @@
 -- `tracker::inner::gaps::set_ratio_hint` meets its contract. Assumes nothing.
-use Rattle.std.proofs.Common.{sym, ◌∙◌, rules}
+use Rattle.std.proofs.Common.{sym, ◌∙◌}
 use Rattle.ranges.proofs.Standard.{standard_good, standard_held}
 use Rattle.ranges.specs.Settings.{standard}
 use Rattle.tracker.specs.Steps.{set_hint}

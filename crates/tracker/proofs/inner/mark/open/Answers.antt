@@ -1,5 +1,4 @@
 -- `tracker::inner::mark::open` meets its contract. Assumes nothing.
-use Rattle.std.proofs.Common.{rules}
 use Rattle.ranges.specs.Settings.{standard}
 use Rattle.tracker.specs.Model.{view}
 use Rattle.tracker.proofs.Marking.{opens, waits}

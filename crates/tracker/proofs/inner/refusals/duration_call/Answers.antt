@@ -1,5 +1,5 @@
 -- `tracker::inner::refusals::duration_call` meets its contract. Assumes nothing.
-use Rattle.std.proofs.Common.{ap, ◌∙◌, rules}
+use Rattle.std.proofs.Common.{ap, ◌∙◌}
 use Rattle.ranges.specs.Settings.{standard}
 use Rattle.tracker.specs.Answers.{state_then}
 use Rattle.tracker.proofs.inner.refusals.duration_call.Goals as goal

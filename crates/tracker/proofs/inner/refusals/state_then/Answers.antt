@@ -1,5 +1,5 @@
 -- `tracker::inner::refusals::state_then` meets its contract. Assumes nothing.
-use Rattle.std.proofs.Common.{sym, ◌∙◌, rules}
+use Rattle.std.proofs.Common.{sym, ◌∙◌}
 use Rattle.tracker.proofs.inner.refusals.state_then.Goals as goal
 
 pub returns-then-is_sound : goal.returns-then-is_sound

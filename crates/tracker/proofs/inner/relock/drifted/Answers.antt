@@ -1,5 +1,5 @@
 -- `tracker::inner::relock::drifted` meets its contract. Assumes nothing.
-use Rattle.std.proofs.Common.{ap, ◌∙◌, arith, rules}
+use Rattle.std.proofs.Common.{ap, ◌∙◌, arith}
 use Rattle.ranges.specs.Settings.{standard}
 use Rattle.tracker.specs.Steps.{relocked}
 use Rattle.tracker.specs.Model.{view}

@@ -1,5 +1,4 @@
 -- `tracker::inner::resolve::can_resolve` meets its contract. Assumes nothing.
-use Rattle.std.proofs.Common.{rules}
 use Rattle.ranges.specs.Settings.{standard}
 use Rattle.tracker.proofs.Soundness.{sound_fine}
 use Rattle.tracker.proofs.inner.resolve.can_resolve.Goals as goal

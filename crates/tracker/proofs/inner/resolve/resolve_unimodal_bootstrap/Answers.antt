@@ -1,5 +1,5 @@
 -- `tracker::inner::resolve::resolve_unimodal_bootstrap` meets its contract. Assumes nothing.
-use Rattle.std.proofs.Common.{sym, ap, ◌∙◌, arith, rules}
+use Rattle.std.proofs.Common.{sym, ap, ◌∙◌, arith}
 use Rattle.ranges.proofs.Standard.{standard_good, standard_held}
 use Rattle.ranges.specs.Settings.{standard}
 use Rattle.tracker.specs.Steps.{timed, bound}

@@ -1,5 +1,5 @@
 -- `tracker::inner::rivals::element_gap` meets its contract. Assumes nothing.
-use Rattle.std.proofs.Common.{true, false, sym, refl, ap, ◌∙◌, rules}
+use Rattle.std.proofs.Common.{true, false, sym, refl, ap, ◌∙◌}
 use lib.Ieee.{Float, binary32, mul, lt}
 use Rattle.ranges.specs.Settings.{standard}
 use Rattle.marks.specs.Constants.{two}

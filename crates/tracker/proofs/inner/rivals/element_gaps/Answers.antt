@@ -1,10 +1,9 @@
 -- `tracker::inner::rivals::element_gaps` meets its contract. Assumes nothing.
-use Rattle.std.proofs.Common.{◌-◌, length, arith, rules}
+use Rattle.std.proofs.Common.{arith}
 use Rattle.ranges.proofs.Mean.{all_at}
 use Rattle.ranges.specs.Limits.{duration_min, duration_max}
 use Rattle.ranges.specs.Settings.{standard}
-use Rattle.tracker.specs.Model.{view}
-use Rattle.tracker.proofs.Rivalling.{Hearing, hear_begins, hear_turns, hear_ends}
+use Rattle.tracker.proofs.Rivalling.{hear_begins, hear_turns, hear_ends}
 use Rattle.marks.proofs.Bounds.{outside}
 use Rattle.tracker.proofs.inner.rivals.element_gaps.Goals as goal
 

@@ -1,5 +1,5 @@
 -- `tracker::inner::sound::is_proper` meets its contract. Assumes nothing.
-use Rattle.std.proofs.Common.{sym, ◌∙◌, rules}
+use Rattle.std.proofs.Common.{sym, ◌∙◌}
 use Rattle.tracker.specs.Sound.{proper}
 use Rattle.tracker.proofs.inner.sound.is_proper.Goals as goal
 

@@ -1,5 +1,5 @@
 -- `tracker::inner::sound::is_sound` meets its contract. Assumes nothing.
-use Rattle.std.proofs.Common.{sym, ◌∙◌, rules}
+use Rattle.std.proofs.Common.{sym, ◌∙◌}
 use Rattle.ranges.proofs.Compare.{and_taken}
 use Rattle.tracker.specs.Sound.{sound}
 use Rattle.tracker.proofs.Soundness.{counted_is}

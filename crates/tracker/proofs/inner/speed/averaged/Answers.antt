@@ -1,5 +1,4 @@
 -- `tracker::inner::speed::averaged` meets its contract. Assumes nothing.
-use Rattle.std.proofs.Common.{rules}
 use Rattle.tracker.proofs.inner.speed.averaged.Goals as goal
 
 pub returns-then-has_wpm : goal.returns-then-has_wpm

@@ -1,5 +1,5 @@
 -- `tracker::inner::speed::bound` meets its contract. Assumes nothing.
-use Rattle.std.proofs.Common.{arith, rules}
+use Rattle.std.proofs.Common.{arith}
 use Rattle.tracker.proofs.inner.speed.bound.Goals as goal
 
 pub returns : goal.returns

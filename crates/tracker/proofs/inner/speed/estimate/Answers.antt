@@ -1,5 +1,5 @@
 -- `tracker::inner::speed::estimate` meets its contract. Assumes nothing.
-use Rattle.std.proofs.Common.{◌∙◌, rules}
+use Rattle.std.proofs.Common.{◌∙◌}
 use Rattle.tracker.proofs.inner.speed.estimate.Goals as goal
 
 pub returns-then-has_egap : goal.returns-then-has_egap

@@ -1,5 +1,4 @@
 -- `tracker::inner::speed::speed` meets its contract. Assumes nothing.
-use Rattle.std.proofs.Common.{rules}
 use Rattle.tracker.proofs.inner.speed.speed.Goals as goal
 
 pub returns : goal.returns

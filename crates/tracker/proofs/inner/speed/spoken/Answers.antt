@@ -1,5 +1,4 @@
 -- `tracker::inner::speed::spoken` meets its contract. Assumes nothing.
-use Rattle.std.proofs.Common.{rules}
 use Rattle.tracker.proofs.inner.speed.spoken.Goals as goal
 
 pub returns : goal.returns

@@ -1,5 +1,4 @@
 -- `tracker::inner::speed::timed` meets its contract. Assumes nothing.
-use Rattle.std.proofs.Common.{rules}
 use Rattle.tracker.proofs.inner.speed.timed.Goals as goal
 
 pub returns : goal.returns
