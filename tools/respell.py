@@ -5,8 +5,8 @@ usage: python3 tools/respell.py [--check]
 
 Names that specs/ and proofs/ declare and that are spelled with dashes, in camel case or with a prime sign become
 words joined by underscores. What the library declares, what Rattle makes for proofs, types, modules, functions of
-src/, exported names and strings keep their spelling. It rewrites crates/ (edits too), and names in back quotes in
-README.md and docs/. --check prints the table and the names that would fall together, and writes nothing.
+src/, exported names and strings keep their spelling. It rewrites the .rt and .antt files of crates/, and names in back
+quotes in README.md and docs/. --check prints the table and the names that would fall together, and writes nothing.
 """
 
 import glob
