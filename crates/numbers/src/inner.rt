@@ -12,7 +12,7 @@ use crate::root::{pattern_below, positive_root32, positive_root64};
 use crate::rounding::{ratio32, take_apart32};
 
 // Where a logarithm begins: the leading one brought to bit 31, and the exponent, 149 more than it is.
-#[derive(Drop)]
+#[derive(Clone, Copy)]
 pub(crate) struct Lead {
     pub y: u64,
     pub e: u64,
@@ -58,7 +58,7 @@ pub fn ln_of(v: f32) -> f32
 }
 
 // Two logarithms.
-#[derive(Drop)]
+#[derive(Clone, Copy)]
 pub struct Logs {
     pub a: f32,
     pub b: f32,

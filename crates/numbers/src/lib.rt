@@ -8,14 +8,14 @@ pub mod root;
 pub mod rounding;
 
 // What a call on an f32 answers: the value, or the number of a refusal.
-#[derive(Drop)]
+#[derive(Clone, Copy)]
 pub enum Answer32 {
     Is(f32),
     Refused(u8),
 }
 
 // What a call on an f64 answers: the value, or the number of a refusal.
-#[derive(Drop)]
+#[derive(Clone, Copy)]
 pub enum Answer64 {
     Is(f64),
     Refused(u8),

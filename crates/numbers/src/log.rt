@@ -7,7 +7,7 @@ use crate::Answer32;
 use crate::inner::ln_of;
 
 // Where the squaring stands: the number, and the digits that it gave so far.
-#[derive(Drop)]
+#[derive(Clone, Copy)]
 pub(crate) struct Squaring {
     pub y: u64,
     pub t: u64,
@@ -28,7 +28,7 @@ pub(crate) fn one_digit(q: Squaring) -> Squaring
 }
 
 // The digits of two logarithms.
-#[derive(Drop)]
+#[derive(Clone, Copy)]
 pub(crate) struct Digits {
     pub a: u64,
     pub b: u64,

@@ -14,7 +14,7 @@ use crate::rounding::{nearest32, nearest64, take_apart};
 use crate::{Answer32, Answer64};
 
 // A root's leading digits and what is left below them.
-#[derive(Drop)]
+#[derive(Clone, Copy)]
 pub(crate) struct Extract {
     pub q: u64,
     pub rest: u64,
@@ -148,7 +148,7 @@ pub(crate) fn any(n: u64) -> u64
 }
 
 // The root of sig * 2^j / 2^1074 is near w * 2^j / 2^1074.
-#[derive(Drop)]
+#[derive(Clone, Copy)]
 pub(crate) struct Root {
     pub w: u64,
     pub j: u16,

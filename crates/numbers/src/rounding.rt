@@ -104,7 +104,7 @@ pub(crate) fn finite64(v: f64) -> bool
 }
 
 // A finite f64 is sig * 2^j / 2^1074, and an f32 is sig * 2^j / 2^149, negative where `neg`.
-#[derive(Drop)]
+#[derive(Clone, Copy)]
 pub(crate) struct Parts {
     pub neg: bool,
     pub sig: u64,

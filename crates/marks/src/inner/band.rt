@@ -22,7 +22,7 @@ pub(crate) fn in_band(lo: f32, g: f32) -> bool
 }
 
 // The gaps of a band.
-#[derive(Drop)]
+#[derive(Clone, Copy)]
 pub struct Gaps {
     pub at: [f32; 12],
     pub n: usize,

@@ -29,7 +29,7 @@ pub(crate) fn largest_ratio_split(s: &[f32]) -> usize
 }
 
 // How many marks stand before the cut, and the means of those and of the others.
-#[derive(Drop)]
+#[derive(Clone, Copy)]
 pub struct Halves {
     pub cut: usize,
     pub lo: f32,

@@ -12,7 +12,7 @@ pub(crate) fn shift_recent(r: [f32; 5], d: f32) -> [f32; 5]
 }
 
 // The last marks, at most five.
-#[derive(Drop)]
+#[derive(Clone, Copy)]
 pub struct Recent {
     pub at: [f32; 5],
     pub n: usize,
