@@ -3,6 +3,8 @@
 
 usage: python3 tools/respell.py [--check]
 
+Run it once, on what port.py has written: in proof files that were begun later it would rename goals.
+
 Names that specs/ and proofs/ declare and that are spelled with dashes, in camel case or with a prime sign become
 words joined by underscores. What the library declares, what Rattle makes for proofs, types, modules, functions of
 src/, exported names and strings keep their spelling. It rewrites the .rt and .antt files of crates/, and names in back
