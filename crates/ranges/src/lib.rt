@@ -6,7 +6,10 @@ ghost use Rattle.std.specs.Float.Ieee.Positive.{positive};
 ghost use Rattle.ranges.specs.Interval.{within};
 ghost use Rattle.ranges.specs.Limits.{duration_min, duration_max, duration_refusal};
 
+pub use duration::Duration;
 use order::is_finite32;
+
+mod duration;
 
 // Whether x lies from lo up to hi; a NaN lies nowhere.
 pub fn within(x: f32, lo: f32, hi: f32) -> bool
@@ -19,11 +22,7 @@ pub fn within(x: f32, lo: f32, hi: f32) -> bool
 pub fn is_positive(x: f32) -> bool
     ensures { result ≡ positive x }
 {
-    let top = f32::from_bits(0x7f80_0000);
-    if 0.0 < x {
-        return x < top;
-    }
-    false
+    0.0 < x && x < f32::INFINITY
 }
 
 // Whether refusals 5 to 7 let x pass.

@@ -1,0 +1,24 @@
+-- The numbers of document 01's refusals, and what a result says of them. Definitions only.
+use Rattle.std.specs.Prelude.{ℕ, Result, Ok, Err}
+use Rattle.refusals.specs.declared.Refusal.{Refusal}
+use Rattle.refusals.specs.declared.Refusal.TheVariants.{UnsoundState, FullCounts, TooWide, LongList, EndlessDuration, ShortDuration, LongDuration, BadSpeed, BadDit, NoLogarithm, NoRoot, BadLine}
+
+-- "Refusals in checking order", 1 to 12
+abbrev pub number : Refusal → ℕ
+number UnsoundState = 1
+number FullCounts = 2
+number TooWide = 3
+number LongList = 4
+number EndlessDuration = 5
+number ShortDuration = 6
+number LongDuration = 7
+number BadSpeed = 8
+number BadDit = 9
+number NoLogarithm = 10
+number NoRoot = 11
+number BadLine = 12
+
+-- the number of the refusal that a result bears; 0 where it bears none
+abbrev pub refusal_of : {A : Type 0} → Result A Refusal → ℕ
+refusal_of (Ok a) = 0
+refusal_of (Err r) = number r
