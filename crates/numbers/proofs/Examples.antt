@@ -1,6 +1,6 @@
 -- Worked examples, computed from the definitions of specs/; and that `lead` brings the leading one to bit 31 and loses nothing. Assumes nothing.
-use Rattle.std.proofs.Common.{◌≡◌, ℕ, suc, ◌+◌, ◌-◌, ◌*◌, ◌/◌, ◌^◌, ◌<◌, ◌≤◌, sym, refl, ap, ◌∙◌, subst, le_trans, le_of_eq, lt_of_lt_of_le, le_of_suc-le-suc, lt_irrefl, mul-le-mul_right, mul_assoc, mul_comm, div-lt_iff_lt-mul, mul-lt-mul_of_pos_right, lt_of_not-le, le-div_iff_mul-le, mul-div_cancel, arith, pow_pos, pow_mono, pow-add}
-use lib.Ieee.{Float, binary32, binary64, of_bits, size, round}
+use Rattle.std.proofs.Common.{◌≡◌, ℕ, ◌+◌, ◌-◌, ◌*◌, ◌/◌, ◌^◌, ◌<◌, ◌≤◌, sym, refl, ap, ◌∙◌, subst, le_trans, le_of_eq, lt_of_lt_of_le, le_of_suc-le-suc, lt_irrefl, mul-le-mul_right, mul_assoc, mul_comm, div-lt_iff_lt-mul, mul-lt-mul_of_pos_right, lt_of_not-le, le-div_iff_mul-le, mul-div_cancel, arith, pow_pos, pow_mono, pow-add}
+use lib.Ieee.{binary32, binary64, of_bits, size, round}
 use lib.Ieee.Digits.{size-lt, size-le, size_reaches}
 use Rattle.numbers.specs.Values.{narrow}
 use Rattle.numbers.specs.Log.{digits, lead, ln_of}

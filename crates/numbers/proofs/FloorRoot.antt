@@ -1,5 +1,5 @@
 -- `floor_root n` is the largest r with r * r ≤ n. Assumes nothing.
-use Rattle.std.proofs.Common.{◌≡◌, ℕ, zero, suc, ◌+◌, ◌-◌, ◌*◌, ◌/◌, ◌%◌, ◌^◌, ◌<◌, ◌≤◌, Bool, true, false, cond, not, T, leb, sym, refl, ap, ◌∙◌, subst, le_trans, le_of_eq, le_refl, lt_of_lt_of_le, lt_of_le_of_lt, mul-le-mul_right, zero-lt-suc, mul_comm, div-lt_iff_lt-mul, mul-le-mul_left, lt_of_not-le, not-le_of_lt, arith, leb→le}
+use Rattle.std.proofs.Common.{◌≡◌, ℕ, zero, suc, ◌+◌, ◌*◌, ◌/◌, ◌^◌, ◌<◌, ◌≤◌, Bool, true, false, cond, not, T, leb, sym, refl, ◌∙◌, subst, le_trans, le_of_eq, le_refl, lt_of_lt_of_le, mul-le-mul_right, zero-lt-suc, mul_comm, div-lt_iff_lt-mul, mul-le-mul_left, lt_of_not-le, not-le_of_lt, arith, leb→le}
 use native.Mathlib.Nat.{pow-succ'}
 use lib.Dec.{nleb→lt}
 use lib.Ieee.{size}

@@ -1,6 +1,6 @@
 -- Where the logarithm of an f32 that is finite and above zero begins, from its parts sig * 2 ^ j / 2 ^ 149 and the
 -- leading zeros of sig. Assumes nothing.
-use Rattle.std.proofs.Common.{◌≡◌, ℕ, zero, suc, ◌+◌, ◌-◌, ◌*◌, ◌/◌, ◌%◌, ◌^◌, ◌<◌, ◌≤◌, Bool, true, false, cond, ℤ, pos, negsuc, sym, refl, ap, ◌∙◌, subst, le_trans, le_of_eq, lt_of_lt_of_le, le_of_suc-le-suc, lt_of_le_of_lt, lt_irrefl, mul-le-mul_right, mod-eq_of_lt, zero-lt-suc, mul_assoc, mul-pos, lt_of_not-le, mul-one, mul_right_comm, div-one, arith, lit<, lit≤, pow_pos, pow_mono, pow-add, shl_lt, le-leb}
+use Rattle.std.proofs.Common.{◌≡◌, ℕ, suc, ◌+◌, ◌-◌, ◌*◌, ◌%◌, ◌^◌, ◌<◌, ◌≤◌, Bool, true, false, cond, ℤ, pos, negsuc, sym, refl, ap, ◌∙◌, subst, le_trans, le_of_eq, lt_of_lt_of_le, le_of_suc-le-suc, lt_irrefl, mul-le-mul_right, mod-eq_of_lt, zero-lt-suc, mul_assoc, mul-pos, lt_of_not-le, mul-one, mul_right_comm, div-one, arith, lit<, lit≤, pow_pos, pow_mono, pow-add, shl_lt, le-leb}
 use native.Mathlib.Nat.{eq_of_mul-eq-mul_right}
 use native.Mathlib.Decide.{dec_le}
 use lib.Count.{count_leading_zeros, leading_top}
@@ -166,8 +166,8 @@ module _ (sig z : ℕ) (k : Counted sig z) where
 
 -- ---- where the logarithm begins, as the code has it
 module _ (v : Float) (q : Plain v) (p : Parts) (a : Parted binary32 v p) where
-  has : HasValue (fin false (suc q.0) q.1) p.neg (p.sig * 2 ^ p.j) (2 ^ 149)
-  has = subst (λ (x : Float). HasValue x p.neg (p.sig * 2 ^ p.j) (2 ^ 149)) q.2 a.value
+  has : HasValue (fin false (suc q.0) q.1) a.sign (p.sig * 2 ^ p.j) (2 ^ 149)
+  has = subst (λ (x : Float). HasValue x a.sign (p.sig * 2 ^ p.j) (2 ^ 149)) q.2 a.value
 
   some_digit : 0 < p.sig
   some_digit =

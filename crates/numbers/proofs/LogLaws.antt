@@ -1,5 +1,5 @@
 -- One digit of the logarithm, and the turns of the loops over 24 of them. Assumes nothing.
-use Rattle.std.proofs.Common.{◌≡◌, ℕ, zero, suc, ◌+◌, ◌-◌, ◌*◌, ◌/◌, ◌%◌, ◌^◌, ◌<◌, ◌≤◌, Bool, true, false, cond, leb, sym, refl, ap, ◌∙◌, subst, le_trans, lt_of_lt_of_le, lt_of_le_of_lt, le_of_lt, mul-le-mul_right, div-lt_iff_lt-mul, mul-le-mul_left, mul-lt-mul_of_pos_right, le-div_iff_mul-le, div-one, add-one, arith, lit<, lit≤, pow_pos, pow_mono, leb-false, leb-true}
+use Rattle.std.proofs.Common.{◌≡◌, ℕ, suc, ◌+◌, ◌-◌, ◌*◌, ◌/◌, ◌^◌, ◌<◌, ◌≤◌, Bool, true, false, cond, leb, sym, refl, ap, ◌∙◌, subst, le_trans, lt_of_lt_of_le, lt_of_le_of_lt, le_of_lt, mul-le-mul_right, div-lt_iff_lt-mul, mul-le-mul_left, mul-lt-mul_of_pos_right, le-div_iff_mul-le, div-one, add-one, arith, lit≤, pow_pos, pow_mono, leb-false, leb-true}
 use native.Mathlib.Nat.{pow-succ'}
 use Rattle.numbers.specs.Log.{squared, digit, next, digits}
 

@@ -1,12 +1,12 @@
 -- `root_of` is the root rounded to the nearest: no other value of the format is as near, and there is no tie. Assumes nothing.
-use Rattle.std.proofs.Common.{◌≡◌, ℕ, zero, suc, ◌+◌, ◌-◌, ◌*◌, ◌/◌, ◌%◌, ◌^◌, ◌<◌, ◌≤◌, Bool, true, false, cond, not, ◌&&◌, T, eqb, ltb, leb, ◌⊎◌, ℤ, pos, negsuc, sym, refl, ap, ◌∙◌, subst, inl, inr, le_trans, le_of_eq, le_refl, lt_of_lt_of_le, le_of_suc-le-suc, lt_of_le_of_lt, le_of_lt, lt_irrefl, mul-le-mul_right, mod-lt, zero-lt-suc, mul_assoc, suc-mul, mul_comm, div-lt_iff_lt-mul, le_antisymm, lt_of_mul-lt-mul_right, eq-or-lt_of_le, mul-le-mul_left, mul-lt-mul_of_pos_right, mul-pos, one-mul, pow-suc, lt_of_not-le, div-add-mod', le-div_iff_mul-le, zero-mul, mul-one, mul_right_comm, not-le_of_lt, le_of_mul-le-mul_right, div-one, mul-div_cancel, mul_left_comm, arith, lit<, lit≤, eqb→eq, ltb→lt, leb→le, pow_pos, pow_mono, pow-add, shl_lt, eq-eqb, ne_eqb, eqb-true}
+use Rattle.std.proofs.Common.{◌≡◌, ℕ, zero, suc, ◌+◌, ◌-◌, ◌*◌, ◌/◌, ◌%◌, ◌^◌, ◌<◌, ◌≤◌, Bool, true, false, cond, ◌&&◌, T, eqb, ltb, leb, ◌⊎◌, ℤ, pos, negsuc, sym, refl, ap, ◌∙◌, subst, inl, inr, le_trans, le_of_eq, lt_of_lt_of_le, le_of_suc-le-suc, lt_of_le_of_lt, le_of_lt, lt_irrefl, mul-le-mul_right, mod-lt, zero-lt-suc, mul_assoc, suc-mul, div-lt_iff_lt-mul, le_antisymm, lt_of_mul-lt-mul_right, eq-or-lt_of_le, mul-le-mul_left, mul-lt-mul_of_pos_right, mul-pos, one-mul, pow-suc, lt_of_not-le, div-add-mod', le-div_iff_mul-le, zero-mul, mul-one, mul_right_comm, not-le_of_lt, div-one, mul-div_cancel, mul_left_comm, arith, lit≤, eqb→eq, ltb→lt, leb→le, pow_pos, pow_mono, pow-add, shl_lt, eqb-true}
 use Prim.Native.Nat.{compare}
-use native.Mathlib.Nat.{eq_of_mul-eq-mul_right, le_dest, pow-succ', div-div-eq-div-mul}
+use native.Mathlib.Nat.{eq_of_mul-eq-mul_right, pow-succ'}
 use native.Mathlib.Decide.{dec_le}
 use lib.Pow.{pow-lt}
-use lib.Ieee.{Float, nan, inf, fin, Format, binary32, binary64, prec, emax, low, up, down, size, fits, units, round}
+use lib.Ieee.{Float, nan, inf, fin, Format, binary32, binary64, prec, emax, low, up, down, size, fits, units}
 use lib.Ieee.Digits.{size-lt, size-le, size_reaches}
-use lib.Ieee.Fits.{two, two-le_pos, nearest-le, and_l, and_r, down_pos, up_pos, round_is, round-fits}
+use lib.Ieee.Fits.{two, two-le_pos, nearest-le, and_l, and_r, down_pos, round_is, round-fits}
 use lib.Ieee.Exact.{HasValue, units_val}
 use lib.Ieee.Nearest.{closest, closest_same, nearest-ge, div_same}
 use lib.Ieee.Scale.{finite}
@@ -53,10 +53,10 @@ odd_pow m n (suc a) (suc b) o p h =
     (mul_assoc m (2 ^ a) 2 ∙ ap (λ (x : ℕ). m * x) (sym (pow-suc 2 a)) ∙ h ∙ ap (λ (x : ℕ). n * x) (pow-suc 2 b) ∙ sym (mul_assoc n (2 ^ b) 2)))
 
 -- ---- what a format holds
-abbrev Held : Format → ℕ → ℤ → Type 0
+abbrev pub Held : Format → ℕ → ℤ → Type 0
 Held f m e = (m % 2 ≡ 1) × (m < 2 ^ prec f) × (down e ≤ 2 ^ low f) × (m * up e < 2 ^ suc (emax f) * down e)
 
-held_of : (f : Format) (s : Bool) (m : ℕ) (e : ℤ) → T (fits f (fin s (suc m) e)) → Held f (suc m) e
+pub held_of : (f : Format) (s : Bool) (m : ℕ) (e : ℤ) → T (fits f (fin s (suc m) e)) → Held f (suc m) e
 unfolding fits
 held_of f s m e h =
     let A = eqb (suc m % 2) 1 in
@@ -84,7 +84,7 @@ pow_lt_back : (i p : ℕ) → 2 ^ i < 2 ^ p → i < p
 pow_lt_back i p h = lt_of_not-le (λ (g : p ≤ i). lt_irrefl (2 ^ i) (lt_of_lt_of_le h (pow_mono g)))
 
 -- m * 2 ^ e in units of 2 ^ -L, where that is whole
-place : (L m : ℕ) (e : ℤ) → fall e ≤ L → m * up e * 2 ^ L / down e ≡ m * 2 ^ (rise e + L - fall e)
+pub place : (L m : ℕ) (e : ℤ) → fall e ≤ L → m * up e * 2 ^ L / down e ≡ m * 2 ^ (rise e + L - fall e)
 place L m e h =
     div_same (m * up e * 2 ^ L) (down e) (m * 2 ^ J) 1 (down_pos e) (lit≤ tt)
     (mul-one (m * up e * 2 ^ L)
@@ -174,13 +174,13 @@ module _ (f : Format) (m : ℕ) (e : ℤ) (H : Held f m e) where
       go : (x : ℕ) → x % 2 ≡ 1 → 0 < x
       go x h = omega arith
 
-  fall_le : fall e ≤ l
+  pub fall_le : fall e ≤ l
   fall_le = pow_le_back (fall e) l (subst (λ (x : ℕ). x ≤ 2 ^ l) (down_is e) H.2)
 
   abbrev t : ℕ
   t = rise e + 2 * l - fall e
 
-  N-is : N ≡ m * 2 ^ t
+  pub N-is : N ≡ m * 2 ^ t
   N-is = place (2 * l) m e (go (fall e) l fall_le)
     where
       go : (x y : ℕ) → x ≤ y → x ≤ 2 * y
@@ -206,7 +206,7 @@ module _ (f : Format) (m : ℕ) (e : ℤ) (H : Held f m e) where
       scaled : m * 2 ^ rise e < 2 ^ suc (emax f) * 2 ^ fall e
       scaled = subst (λ (x : ℕ). m * x < 2 ^ suc (emax f) * 2 ^ fall e) (up_is e) (subst (λ (x : ℕ). m * up e < 2 ^ suc (emax f) * x) (down_is e) H.3)
 
-  R-ge : 2 ^ p ≤ R
+  pub R-ge : 2 ^ p ≤ R
   R-ge = le_of_suc-le-suc (square_lt_back (2 ^ p) (suc R) (lt_of_le_of_lt (le_trans (le_of_eq (sym (pow-add 2 p p))) (le_trans (pow_mono (twice_wide f)) N-ge)) (floor_root_law N).1))
 
   R-lt : R < 2 ^ (l + emax f)
@@ -525,43 +525,6 @@ module _ (f : Format) (m : ℕ) (e : ℤ) (H : Held f m e) where
 pub rooted_fits : (f : Format) (m : ℕ) (e : ℤ) → T (fits f (root_of f m e))
 unfolding root_of
 rooted_fits f m e = round-fits f false (2 * floor_root (square_units f m e) + cond (eqb (floor_root (square_units f m e) * floor_root (square_units f m e)) (square_units f m e)) 0 1) (2 ^ (low f + 1))
-
--- ---- the root in units, for laws on whole numbers
-module _ (f : Format) (m : ℕ) (e : ℤ) (F : T (fits f (fin false (suc m) e))) where
-  pub root_value : HasValue (root_of f (suc m) e) false (units_of f (root_of f (suc m) e)) (2 ^ low f)
-  root_value = let H = held_of f false m e F in subst (λ (x : ℕ). HasValue (root_of f (suc m) e) false x (2 ^ low f)) (sym (a_is f (suc m) e H)) (value f (suc m) e H)
-
-  finite_root : (x : Float) (a : ℕ) → HasValue x false a (2 ^ low f) → T (finite x)
-  finite_root nan a h = absurd h
-  finite_root (inf s) a h = absurd h
-  finite_root (fin s n d) a h = tt
-
-  pub root_short : Short f (units_of f (root_of f (suc m) e))
-  root_short = short f (root_of f (suc m) e) (rooted_fits f (suc m) e) (finite_root (root_of f (suc m) e) _ root_value)
-
-  pub root_best : (b : ℕ) → Short f b → Nearer (square_units f (suc m) e) (units_of f (root_of f (suc m) e)) b
-  root_best b s = let H = held_of f false m e F in subst (λ (x : ℕ). Nearer (square_units f (suc m) e) x b) (sym (a_is f (suc m) e H)) (best f (suc m) e H b s)
-
-  -- the square is a whole number of units
-  pub units_whole : square_units f (suc m) e * down e ≡ suc m * up e * 2 ^ (2 * low f)
-  units_whole =
-      let H = held_of f false m e F in
-      let g : fall e ≤ 2 * low f = twice (fall e) (low f) (pow_le_back (fall e) (low f) (subst (λ (x : ℕ). x ≤ 2 ^ low f) (down_is e) H.2)) in
-      ap (λ (x : ℕ). x * down e) (place (2 * low f) (suc m) e g) ∙ placed g
-    where
-      twice : (x y : ℕ) → x ≤ y → x ≤ 2 * y
-      twice x y h = omega arith
-
-      back : (x y z : ℕ) → z ≤ y → x + y - z + z ≡ x + y
-      back x y z h = omega arith
-
-      placed : fall e ≤ 2 * low f → suc m * 2 ^ (rise e + 2 * low f - fall e) * down e ≡ suc m * up e * 2 ^ (2 * low f)
-      placed g =
-          ap (λ (x : ℕ). suc m * 2 ^ (rise e + 2 * low f - fall e) * x) (down_is e)
-          ∙ mul_assoc (suc m) (2 ^ (rise e + 2 * low f - fall e)) (2 ^ fall e)
-          ∙ ap (λ (x : ℕ). suc m * x) (sym (pow-add 2 (rise e + 2 * low f - fall e) (fall e)) ∙ ap (λ (x : ℕ). 2 ^ x) (back (rise e) (2 * low f) (fall e) g) ∙ pow-add 2 (rise e) (2 * low f))
-          ∙ sym (mul_assoc (suc m) (2 ^ rise e) (2 ^ (2 * low f)))
-          ∙ ap (λ (x : ℕ). suc m * x * 2 ^ (2 * low f)) (sym (up_is e))
 
 -- ---- the theorem
 pub root_is_nearest : (f : Format) (m : ℕ) (e : ℤ) → T (fits f (fin false (suc m) e)) → NearestRoot f (suc m) e (root_of f (suc m) e)

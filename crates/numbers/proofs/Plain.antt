@@ -1,15 +1,13 @@
--- Which values pass the tests of the code: finite and above zero, and what has a root. Assumes nothing.
-use Rattle.std.proofs.Common.{◌≡◌, ℕ, zero, suc, ◌+◌, ◌*◌, ◌%◌, ◌<◌, ◌≤◌, Bool, true, false, cond, not, ◌&&◌, ◌||◌, T, eqb, ltb, ℤ, pos, sym, refl, ap, ◌∙◌, subst, true≢false, le_trans, lt_of_lt_of_le, lt_irrefl, zero-lt-suc, mul-pos, zero-mul, mul-one, arith, ltb-false, ltb-true, le-ltb, lt-ltb, eq-eqb, ne_eqb, eqb-true}
+-- The forms of a float: finite and above zero, and a zero. Assumes nothing.
+use Rattle.std.proofs.Common.{◌≡◌, ℕ, zero, suc, ◌*◌, ◌%◌, ◌^◌, ◌<◌, ◌≤◌, Bool, true, false, not, ◌&&◌, ◌||◌, T, eqb, ℤ, pos, negsuc, sym, refl, ap, ◌∙◌, subst, le_trans, lt_of_lt_of_le, lt_irrefl, zero-lt-suc, mul-pos, mul-one, arith, le-ltb, eqb-true, eqb→eq, le_of_eq, one-mul}
 use mathlib.Core.Bool.{beq, false≢true}
 use native.Mathlib.Nat.{mod-le}
-use lib.Ieee.{Float, nan, inf, fin, Format, binary32, binary64, up, down, fits, is_nan, hid, ones, top, nan_bits, of_bits, lt, eq, le, neg, div}
+use lib.Pow.{pow-lt}
+use lib.Ieee.{Float, nan, inf, fin, Format, binary32, binary64, up, down, fits, hid, ones, top, nan_bits, of_bits, eq}
 use lib.Ieee.Bits.{nan_bits_above}
-use lib.Ieee.Fits.{and_i, fits_widens, up_pos}
+use lib.Ieee.Fits.{up_pos}
 use lib.Ieee.Scale.{finite}
 use lib.Ieee.Positive.{positive}
-use Rattle.numbers.specs.Answers.{value, refused}
-use Rattle.numbers.specs.Log.{ln_of, ln_said}
-use Rattle.numbers.specs.Root.{rootless, sqrt_of, sqrt_said}
 
 -- ---- the literals of the tests
 abbrev pub origin : Float
@@ -20,35 +18,9 @@ unfolding of_bits
 zero_is binary32 = refl
 zero_is binary64 = refl
 
-pub top32_is : of_bits binary32 0x7f80_0000 ≡ inf false
-unfolding of_bits
-top32_is = refl
-
-pub top64_is : of_bits binary64 0x7ff0_0000_0000_0000 ≡ inf false
-unfolding of_bits
-top64_is = refl
-
-pub top32_number : T (not (nan_bits binary32 0x7f80_0000))
-unfolding nan_bits
-top32_number = tt
-
-pub top64_number : T (not (nan_bits binary64 0x7ff0_0000_0000_0000))
-unfolding nan_bits
-top64_number = tt
-
 -- a pattern up to the infinity's is no NaN's
 pub number_bits : (f : Format) (n : ℕ) → n ≤ ones f * hid f → T (not (nan_bits f n))
 number_bits f n h = subst (λ (b : Bool). T (not b)) (sym (nan_bits_above f n ∙ le-ltb (ones f * hid f) (n % top f) (le_trans (mod-le n (top f)) h))) tt
-
--- what is above zero is a number
-number_at : (v : Float) → lt origin v ≡ true → T (not (is_nan v))
-unfolding lt is_nan
-number_at nan h = absurd (false≢true h)
-number_at (inf s) h = tt
-number_at (fin s m e) h = tt
-
-pub above_number : (f : Format) (v : Float) → lt (of_bits f 0) v ≡ true → T (not (is_nan v))
-above_number f v h = number_at v (ap (λ (x : Float). lt x v) (sym (zero_is f)) ∙ h)
 
 -- ---- finite and above zero
 abbrev pub Plain : Float → Type 0
@@ -64,88 +36,7 @@ plain (fin false (suc m) e) h = (m, e, refl)
 pub plain_finite : (v : Float) → Plain v → T (finite v)
 plain_finite v p = subst (λ (x : Float). T (finite x)) (sym p.2) tt
 
-pub plain_number : (v : Float) → Plain v → T (not (is_nan v))
-unfolding is_nan
-plain_number v p = subst (λ (x : Float). T (not (is_nan x))) (sym p.2) tt
-
-pub plain_widens : (v : Float) → T (fits binary32 v) → Plain v → T (fits binary64 v && not (is_nan v))
-plain_widens v f p = and_i (fits binary64 v) (not (is_nan v)) (fits_widens v f) (plain_number v p)
-
-none_above : (d : ℕ) → 0 * 1 * d < 0 → ⊥
-none_above d h = omega arith
-
-nothing : (x d : ℕ) → x * 1 ≤ 0 * 1 * d → x ≤ 0
-nothing x d h = omega arith
-
-not_below : (m : ℕ) (e : ℤ) → ltb (0 * 1 * down e) (suc m * up e * 1) ≡ false → ⊥
-not_below m e h =
-    lt_irrefl 0
-    (lt_of_lt_of_le (mul-pos (zero-lt-suc m) (up_pos e))
-    (nothing (suc m * up e) (down e) (ltb-false (0 * 1 * down e) (suc m * up e * 1) h)))
-
-positive_at : (v : Float) → lt origin v ≡ true → lt v (inf false) ≡ true → positive v ≡ true
-unfolding lt
-positive_at nan a b = a
-positive_at (inf true) a b = a
-positive_at (inf false) a b = b
-positive_at (fin true m e) a b = a
-positive_at (fin false zero e) a b = absurd (none_above (down e) (subst (λ (x : ℕ). 0 * 1 * down e < x) (mul-one (0 * up e) ∙ zero-mul (up e)) (ltb-true (0 * 1 * down e) (0 * up e * 1) a)))
-positive_at (fin false (suc m) e) a b = lt-ltb 0 (suc m) (zero-lt-suc m)
-
-low_at : (v : Float) → lt origin v ≡ false → positive v ≡ false
-unfolding lt
-low_at nan a = refl
-low_at (inf s) a = refl
-low_at (fin true m e) a = refl
-low_at (fin false zero e) a = refl
-low_at (fin false (suc m) e) a = absurd (not_below m e a)
-
-high_at : (v : Float) → lt v (inf false) ≡ false → positive v ≡ false
-unfolding lt
-high_at nan b = refl
-high_at (inf s) b = refl
-high_at (fin s m e) b = absurd (true≢false b)
-
--- by the tests `0.0 < v` and `v < infinity`, of either format
-module _ (f : Format) (v t : Float) (I : t ≡ inf false) where
-  pub positive_by : lt (of_bits f 0) v ≡ true → lt v t ≡ true → positive v ≡ true
-  positive_by a b = positive_at v (ap (λ (x : Float). lt x v) (sym (zero_is f)) ∙ a) (ap (λ (x : Float). lt v x) (sym I) ∙ b)
-
-  pub low_by : lt (of_bits f 0) v ≡ false → positive v ≡ false
-  low_by a = low_at v (ap (λ (x : Float). lt x v) (sym (zero_is f)) ∙ a)
-
-  pub high_by : lt v t ≡ false → positive v ≡ false
-  high_by b = high_at v (ap (λ (x : Float). lt v x) (sym I) ∙ b)
-
-pub passed : (v : Float) → positive v ≡ true → T (positive v)
-passed v e = subst T (sym e) tt
-
--- ---- finite, by two comparisons with the infinities
-minus_is : neg (inf false) ≡ inf true
-unfolding neg
-minus_is = refl
-
-finite_at : (v : Float) → lt (inf true) v ≡ true → lt v (inf false) ≡ finite v
-unfolding lt
-finite_at nan h = absurd (false≢true h)
-finite_at (inf true) h = absurd (false≢true h)
-finite_at (inf false) h = refl
-finite_at (fin s m e) h = refl
-
-not_finite_at : (v : Float) → lt (inf true) v ≡ false → false ≡ finite v
-unfolding lt
-not_finite_at nan h = refl
-not_finite_at (inf s) h = refl
-not_finite_at (fin s m e) h = absurd (true≢false h)
-
-module _ (v t : Float) (I : t ≡ inf false) where
-  pub finite_by : lt (neg t) v ≡ true → lt v t ≡ finite v
-  finite_by h = ap (λ (x : Float). lt v x) I ∙ finite_at v (sym (ap (λ (x : Float). lt x v) (ap neg I ∙ minus_is)) ∙ h)
-
-  pub not_finite_by : lt (neg t) v ≡ false → false ≡ finite v
-  not_finite_by h = not_finite_at v (sym (ap (λ (x : Float). lt x v) (ap neg I ∙ minus_is)) ∙ h)
-
--- ---- zeros, and what has no root
+-- ---- zeros
 abbrev pub Zero : Float → Type 0
 Zero v = (s : Bool) × (e : ℤ) × (v ≡ fin s zero e)
 
@@ -168,131 +59,12 @@ zero_at (fin s (suc m) e) h =
 pub zero_by : (f : Format) (v : Float) → eq v (of_bits f 0) ≡ true → Zero v
 zero_by f v h = zero_at v (ap (λ (x : Float). eq v x) (sym (zero_is f)) ∙ h)
 
-nil : (x d : ℕ) → x ≡ 0 → 0 * 1 * d ≡ x * 1
-nil x d h = omega arith
+more_than_one : (k : ℕ) → 2 ^ suc k ≡ 1 → ⊥
+more_than_one k h = lt_irrefl 1 (lt_of_lt_of_le (pow-lt (zero-lt-suc k)) (le_of_eq h))
 
-no_nil : (x d : ℕ) → 0 < x → 0 * 1 * d ≡ x * 1 → ⊥
-no_nil x d p h = omega arith
-
-or_true : (s : Bool) → (s || true) ≡ true
-or_true true = refl
-or_true false = refl
-
-nought : (d : ℕ) → 0 * 1 * d ≡ 0
-nought d = omega arith
-
--- 0 equals a zero of either sign, and no other value
-zero_equals : (s : Bool) (e : ℤ) → eq origin (fin s zero e) ≡ true
-unfolding eq
-zero_equals s e =
-    ap (λ (b : Bool). b && (beq false s || eqb (0 * 1 * down e) 0)) (eq-eqb (0 * 1 * down e) (0 * up e * 1) (nil (0 * up e) (down e) (zero-mul (up e))))
-    ∙ ap (λ (b : Bool). beq false s || b) (eq-eqb (0 * 1 * down e) 0 (nought (down e)))
-    ∙ or_true (beq false s)
-
-pub equals_zero : (s : Bool) (e : ℤ) → eq (fin s zero e) origin ≡ true
-unfolding eq
-equals_zero s e =
-    ap (λ (b : Bool). b && (beq s false || eqb (0 * up e * 1) 0)) (eq-eqb (0 * up e * 1) (0 * 1 * down e) (sym (nil (0 * up e) (down e) (zero-mul (up e)))))
-    ∙ ap (λ (b : Bool). beq s false || b) (eq-eqb (0 * up e * 1) 0 (mul-one (0 * up e) ∙ zero-mul (up e)))
-    ∙ or_true (beq s false)
-
-other_differs : (s : Bool) (m : ℕ) (e : ℤ) → eq origin (fin s (suc m) e) ≡ false
-unfolding eq
-other_differs s m e =
-    ap (λ (b : Bool). b && (beq false s || eqb (0 * 1 * down e) 0))
-    (ne_eqb (0 * 1 * down e) (suc m * up e * 1) (no_nil (suc m * up e) (down e) (mul-pos (zero-lt-suc m) (up_pos e))))
-
-or_second : (a b : Bool) → b ≡ true → (a || b) ≡ false → ⊥
-or_second true b e h = true≢false h
-or_second false b e h = true≢false (sym e ∙ h)
-
-or_first : (a b : Bool) → (a || b) ≡ false → a ≡ false
-or_first true b h = h
-or_first false b h = refl
-
-rooted_at : (v : Float) → le origin v ≡ true → lt v (inf false) ≡ true → rootless v ≡ false
-unfolding le lt eq
-rooted_at nan a b = absurd (false≢true a)
-rooted_at (inf true) a b = absurd (false≢true a)
-rooted_at (inf false) a b = absurd (false≢true b)
-rooted_at (fin s zero e) a b = refl
-rooted_at (fin true (suc m) e) a b = absurd (false≢true (sym (other_differs true m e) ∙ a))
-rooted_at (fin false (suc m) e) a b = refl
-
-below_at : (v : Float) → le origin v ≡ false → rootless v ≡ true
-unfolding le lt
-below_at nan a = refl
-below_at (inf s) a = refl
-below_at (fin s zero e) a = absurd (or_second (lt origin (fin s zero e)) (eq origin (fin s zero e)) (zero_equals s e) a)
-below_at (fin true (suc m) e) a = refl
-below_at (fin false (suc m) e) a =
-    absurd (not_below m e (or_first (lt origin (fin false (suc m) e)) (eq origin (fin false (suc m) e)) a))
-
-beyond_at : (v : Float) → lt v (inf false) ≡ false → rootless v ≡ true
-unfolding lt
-beyond_at nan b = refl
-beyond_at (inf s) b = refl
-beyond_at (fin s m e) b = absurd (true≢false b)
-
--- by the tests `0.0 <= v` and `v < infinity`, of either format
-module _ (f : Format) (v t : Float) (I : t ≡ inf false) where
-  pub rooted_by : le (of_bits f 0) v ≡ true → lt v t ≡ true → rootless v ≡ false
-  rooted_by a b = rooted_at v (ap (λ (x : Float). le x v) (sym (zero_is f)) ∙ a) (ap (λ (x : Float). lt v x) (sym I) ∙ b)
-
-  pub below_by : le (of_bits f 0) v ≡ false → rootless v ≡ true
-  below_by a = below_at v (ap (λ (x : Float). le x v) (sym (zero_is f)) ∙ a)
-
-  pub beyond_by : lt v t ≡ false → rootless v ≡ true
-  beyond_by b = beyond_at v (ap (λ (x : Float). lt v x) (sym I) ∙ b)
-
--- ---- the root of what is not finite and above zero
-top_at : (f : Format) (v : Float) → lt origin v ≡ true → lt v (inf false) ≡ false → v ≡ sqrt_of f v
-unfolding lt sqrt_of
-top_at f nan a b = refl
-top_at f (inf true) a b = absurd (false≢true a)
-top_at f (inf false) a b = refl
-top_at f (fin s m e) a b = absurd (true≢false b)
-
-pub top_root : (f : Format) (v t : Float) → t ≡ inf false → lt (of_bits f 0) v ≡ true → lt v t ≡ false → v ≡ sqrt_of f v
-top_root f v t I a b = top_at f v (ap (λ (x : Float). lt x v) (sym (zero_is f)) ∙ a) (ap (λ (x : Float). lt v x) (sym I) ∙ b)
-
-zero_root_at : (f : Format) (s : Bool) (e : ℤ) → fin s zero e ≡ sqrt_of f (fin s zero e)
-unfolding sqrt_of
-zero_root_at f s e = refl
-
-pub zero_root : (f : Format) (v : Float) → eq v (of_bits f 0) ≡ true → v ≡ sqrt_of f v
-zero_root f v h = let z = zero_by f v h in z.2 ∙ zero_root_at f z.0 z.1 ∙ ap (sqrt_of f) (sym z.2)
-
-none_at : (f : Format) (v : Float) → lt origin v ≡ false → eq v origin ≡ false → nan ≡ sqrt_of f v
-unfolding lt sqrt_of
-none_at f nan a b = refl
-none_at f (inf true) a b = refl
-none_at f (inf false) a b = absurd (true≢false a)
-none_at f (fin s zero e) a b = absurd (true≢false (sym (equals_zero s e) ∙ b))
-none_at f (fin true (suc m) e) a b = refl
-none_at f (fin false (suc m) e) a b = absurd (not_below m e a)
-
-nan_is : (f : Format) → div f (of_bits f 0) (of_bits f 0) ≡ nan
-unfolding div of_bits
-nan_is binary32 = refl
-nan_is binary64 = refl
-
-pub no_root : (f : Format) (v : Float) → lt (of_bits f 0) v ≡ false → eq v (of_bits f 0) ≡ false → div f (of_bits f 0) (of_bits f 0) ≡ sqrt_of f v
-no_root f v a b = nan_is f ∙ none_at f v (ap (λ (x : Float). lt x v) (sym (zero_is f)) ∙ a) (ap (λ (x : Float). eq v x) (sym (zero_is f)) ∙ b)
-
--- ---- what a call says
-pub said_root : (f : Format) (v r : Float) → rootless v ≡ false → r ≡ sqrt_of f v → value r ≡ sqrt_said f v
-unfolding sqrt_said
-said_root f v r a b = ap value b ∙ ap (λ (x : Bool). cond x (refused 11) (value (sqrt_of f v))) (sym a)
-
-pub no_said_root : (f : Format) (v : Float) → rootless v ≡ true → refused 11 ≡ sqrt_said f v
-unfolding sqrt_said
-no_said_root f v a = ap (λ (x : Bool). cond x (refused 11) (value (sqrt_of f v))) (sym a)
-
-pub said_ln : (v r : Float) → positive v ≡ true → r ≡ ln_of v → value r ≡ ln_said v
-unfolding ln_said
-said_ln v r a b = ap value b ∙ ap (λ (x : Bool). cond x (value (ln_of v)) (refused 10)) (sym a)
-
-pub no_said_ln : (v : Float) → positive v ≡ false → refused 10 ≡ ln_said v
-unfolding ln_said
-no_said_ln v a = ap (λ (x : Bool). cond x (value (ln_of v)) (refused 10)) (sym a)
+-- a zero of a format is written in one way
+pub zero_form : (f : Format) (s : Bool) (e : ℤ) → T (fits f (fin s zero e)) → e ≡ pos 0
+unfolding fits
+zero_form f s (pos zero) h = refl
+zero_form f s (pos (suc k)) h = absurd (more_than_one k (sym (mul-one (2 ^ suc k)) ∙ eqb→eq (2 ^ suc k * 1) 1 h))
+zero_form f s (negsuc k) h = absurd (more_than_one k (sym (one-mul (2 ^ suc k)) ∙ eqb→eq (1 * 2 ^ suc k) 1 h))

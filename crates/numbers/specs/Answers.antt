@@ -1,18 +1,16 @@
 -- What a call of this crate says, in document 01's terms: a value, or the number of the refusal that holds. Definitions only.
-use Rattle.std.specs.Prelude.{ℕ, Float}
-use Rattle.numbers.specs.declared.Answer32.{Answer32}
-use Rattle.numbers.specs.declared.Answer32.TheVariants as A32
-use Rattle.numbers.specs.declared.Answer64.{Answer64}
-use Rattle.numbers.specs.declared.Answer64.TheVariants as A64
+use Rattle.std.specs.Prelude.{ℕ, Float, Result, Ok, Err}
+use Rattle.refusals.specs.Refusal.{number}
+use Rattle.refusals.specs.declared.Refusal.{Refusal}
 
 pub data Said : Type 0 where
   value : Float → Said
   refused : ℕ → Said
 
-abbrev pub said32 : Answer32 → Said
-said32 (A32.Is x) = value x
-said32 (A32.Refused n) = refused n
+-- of a type whose values are floats by f
+abbrev pub said_as : {A : Type 0} → (A → Float) → Result A Refusal → Said
+said_as f (Ok x) = value (f x)
+said_as f (Err r) = refused (number r)
 
-abbrev pub said64 : Answer64 → Said
-said64 (A64.Is x) = value x
-said64 (A64.Refused n) = refused n
+abbrev pub said : Result Float Refusal → Said
+said r = said_as (λ (x : Float). x) r

@@ -1,5 +1,5 @@
 -- The logarithm of document 01, "Root, rounding, logarithm": 24 binary digits of the logarithm to the base 2, by squaring, times ln 2 as 2977044472 / 2 ^ 32, rounded once. Definitions only.
-use Rattle.std.specs.Prelude.{◌≡◌, ℕ, zero, suc, ◌+◌, ◌-◌, ◌*◌, ◌/◌, ◌^◌, ◌<◌, ◌≤◌, Bool, true, false, cond, ℤ, pos, negsuc, nat_le, Float}
+use Rattle.std.specs.Prelude.{ℕ, zero, suc, ◌+◌, ◌*◌, ◌/◌, ◌^◌, Bool, true, false, cond, ℤ, pos, negsuc, nat_le, Float}
 use Rattle.std.specs.Float.{nan, inf, fin, binary32}
 use Rattle.std.specs.Float.Ieee.{size, minus, round}
 use Rattle.std.specs.Float.Ieee.Positive.{positive}

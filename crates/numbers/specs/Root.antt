@@ -1,7 +1,7 @@
 -- The square root of document 01, "Root, rounding, logarithm": IEEE's, rounded to the nearest value of a format, over whole numbers. Definitions only;
 -- `proofs/NearestRoot.antt` shows that no other value of the format is as near.
-use Rattle.std.specs.Prelude.{◌≡◌, ℕ, zero, suc, ◌+◌, ◌-◌, ◌*◌, ◌/◌, ◌^◌, ◌<◌, ◌≤◌, Bool, true, false, cond, T, ℤ, ◌==◌, nat_le, Float}
-use Rattle.std.specs.Float.{nan, inf, fin, Format, binary32, binary64}
+use Rattle.std.specs.Prelude.{ℕ, zero, suc, ◌+◌, ◌*◌, ◌/◌, ◌^◌, ◌<◌, Bool, true, false, cond, T, ℤ, ◌==◌, nat_le, Float}
+use Rattle.std.specs.Float.{nan, inf, fin, Format}
 use Rattle.std.specs.Float.Ieee.{low, up, down, size, round, fits}
 use Rattle.std.specs.Float.Ieee.Exact.{HasValue}
 use Rattle.std.specs.Float.Ieee.Scale.{finite}

@@ -1,6 +1,6 @@
 // The logarithm and the roots as the layers above call them, which know what they hand in.
-ghost use Rattle.std.specs.Prelude.{◌≡◌, ◌+◌, ◌*◌, ◌^◌, ◌<◌, ◌≤◌, not, T, is_nan};
-ghost use Rattle.std.specs.Float.{binary32, binary64};
+ghost use Rattle.std.specs.Prelude.{◌≡◌, ◌+◌, ◌*◌, ◌^◌, ◌<◌, ◌≤◌, T};
+ghost use Rattle.std.specs.Float.{binary32};
 ghost use Rattle.std.specs.Float.Ieee.{lt, minus};
 ghost use Rattle.std.specs.Float.Ieee.Positive.{positive};
 ghost use Rattle.numbers.specs.Log.{ln_of, scaled};
@@ -8,8 +8,8 @@ ghost use Rattle.numbers.specs.Parts.{Begun};
 ghost use Rattle.numbers.specs.Root.{sqrt_of};
 
 use crate::log::two_digits;
-use crate::root::{pattern_below, positive_root32, positive_root64};
-use crate::rounding::{ratio32, take_apart32};
+use crate::root::BinaryFloat;
+use crate::rounding::{ratio, take_apart};
 
 // Where a logarithm begins: the leading one brought to bit 31, and the exponent, 149 more than it is.
 #[derive(Clone, Copy)]
@@ -24,9 +24,9 @@ pub(crate) fn lead_of(v: f32) -> Lead
     requires { T (positive v) }
     ensures { Begun v result.y result.e }
 {
-    let p = take_apart32(v);
+    let p = take_apart(v);
     // 40 of 64 places for 24 digits, and more for a subnormal
-    let z = u64::leading_zeros(p.sig);
+    let z = p.sig.leading_zeros();
     Lead {
         y: p.sig << (z - 32),
         e: (p.j as u64) + 63 - z as u64,
@@ -41,9 +41,9 @@ pub(crate) fn log_from(e: u64, t: u64) -> f32
     let hi = e * 16777216 + t;
     // 149 * 2^24
     if 2499805184 <= hi {
-        return ratio32(false, (hi - 2499805184) * 2977044472, 56);
+        return ratio(false, (hi - 2499805184) * 2977044472, 56);
     }
-    ratio32(true, (2499805184 - hi) * 2977044472, 56)
+    ratio(true, (2499805184 - hi) * 2977044472, 56)
 }
 
 // The natural logarithm of a v that is finite and above zero.
@@ -77,62 +77,9 @@ pub fn ln_two(v: f32, w: f32) -> Logs
     Logs { a, b }
 }
 
-// The root of an f32 as Rust's `sqrt` has it on every value: NaN has none, nor what is below zero.
-pub fn root32(v: f32) -> f32
-    ensures { result ≡ sqrt_of binary32 v }
-{
-    if 0.0 < v {
-        if v < f32::from_bits(0x7f80_0000) {
-            return positive_root32(v);
-        }
-        return v;
-    }
-    if v == 0.0 {
-        return v;
-    }
-    0.0 / 0.0
-}
-
-// The root of an f64 as Rust's `sqrt` has it on every value.
-pub fn root64(v: f64) -> f64
-    ensures { result ≡ sqrt_of binary64 v }
-{
-    if 0.0 < v {
-        if v < f64::from_bits(0x7ff0_0000_0000_0000) {
-            return positive_root64(v);
-        }
-        return v;
-    }
-    if v == 0.0 {
-        return v;
-    }
-    0.0 / 0.0
-}
-
-// Whether x is below the root of a v that is finite and above zero, with no root taken where x is a normal f32.
-fn below_positive(x: f32, v: f32) -> bool
-    requires { T (not (is_nan x)) × T (positive v) }
-    ensures { result ≡ lt x (sqrt_of binary32 v) }
-{
-    let c = f32::to_bits(x);
-    if 0x0080_0000 <= c {
-        if c < 0x7f00_0000 {
-            return pattern_below(c, v);
-        }
-    }
-    x < root32(v)
-}
-
 // Whether x is below the root of v: Rust's `x < v.sqrt()` on every value.
 pub fn below_root(x: f32, v: f32) -> bool
     ensures { result ≡ lt x (sqrt_of binary32 v) }
 {
-    if 0.0 < x {
-        if 0.0 < v {
-            if v < f32::from_bits(0x7f80_0000) {
-                return below_positive(x, v);
-            }
-        }
-    }
-    x < root32(v)
+    x < v.root()
 }

@@ -1,10 +1,10 @@
 // The logarithm of document 01, "Root, rounding, logarithm".
 ghost use Rattle.std.specs.Prelude.{◌≡◌, ℕ, ◌+◌, ◌*◌, ◌^◌, ◌<◌, ◌≤◌};
-ghost use Rattle.numbers.specs.Answers.{said32};
+ghost use Rattle.numbers.specs.Answers.{said};
 ghost use Rattle.numbers.specs.Log.{digit, digits, ln_said, next};
 
-use crate::Answer32;
 use crate::inner::ln_of;
+use refusals::Refusal;
 
 // Where the squaring stands: the number, and the digits that it gave so far.
 #[derive(Clone, Copy)]
@@ -43,23 +43,20 @@ pub(crate) fn two_digits(y: u64, z: u64) -> Digits
 {
     let mut p = Squaring { y, t: 0 };
     let mut q = Squaring { y: z, t: 0 };
-    let mut n: u32 = 0;
-    while n < 24 {
+    for _ in 0..24u32 {
         p = one_digit(p);
         q = one_digit(q);
-        n += 1;
     }
     Digits { a: p.t, b: q.t }
 }
 
 // The natural logarithm of v, refused by 10.
-pub fn ln(v: f32) -> Answer32
-    ensures { said32 result ≡ ln_said v }
+pub fn ln(v: f32) -> Result<f32, Refusal>
+    ensures { said result ≡ ln_said v }
 {
-    if 0.0 < v {
-        if v < f32::from_bits(0x7f80_0000) {
-            return Answer32::Is(ln_of(v));
-        }
+    if 0.0 < v && v.is_finite() {
+        Ok(ln_of(v))
+    } else {
+        Err(Refusal::NoLogarithm)
     }
-    Answer32::Refused(10)
 }

@@ -1,121 +1,69 @@
--- The cases of the order's functions, by the tests of the code. Assumes nothing.
-use mathlib.Core.Path.{◌≡◌, refl, sym, ap, ◌∙◌, subst}
-use mathlib.Core.Bool.{Bool, true, false, not, ◌&&◌, ◌||◌, beq, cond, true≢false, false≢true}
-use Prim.Native.Nat.{ℕ, zero, suc, ◌+◌, ◌*◌, ◌^◌, ◌≤◌, ◌<◌}
-use native.Mathlib.Nat.{lt_irrefl, lt_of_lt_of_le, mul-one, one-mul, zero-mul, mul-pos, zero-lt-suc, le_of_eq}
-use native.Mathlib.Omega.{arith}
-use lib.Dec.{T, ltb, eqb, eqb→eq}
-use lib.IntN.{ℤ, pos, negsuc}
-use lib.Pow.{pow-lt}
-use lib.Ieee.{Float, nan, inf, fin, Format, binary32, binary64, up, down, fits, is_nan, of_bits, lt, eq, ne, neg, div}
-use lib.Ieee.Fits.{up_pos}
-use borrow.Author.Tests.{lt-ltb, ltb-true, eq-eqb}
-use Rattle.order.specs.Order.{abs, negative, total_less}
-use Rattle.numbers.proofs.Plain.{origin, zero_is, equals_zero, Zero, zero_by}
+-- The sign and the total order, by the library's methods. Assumes nothing.
+use Rattle.std.proofs.Common.{◌≡◌, Bool, true, false, cond, not, ◌&&◌, ◌||◌, ◌==◌, T, Less, Equal, Greater, refl, sym, ◌∙◌}
+use mathlib.Core.Bool.{false≢true}
+use lib.Ieee.{Float, nan, inf, fin, is_nan, lt, eq, le}
+use Rattle.std.specs.Float.{is_sign_negative, total_cmp, NotNan}
+use Rattle.std.specs.Ordering.{ordering_index}
+use Rattle.std.proofs.lemmas.Float.{lt_of_not-le, lt_of_lt_of_le, lt_irrefl}
+use Rattle.order.specs.Order.{negative, total_less}
 
--- ---- below zero, a zero, or neither
-not_under : (x d : ℕ) → x * 1 < 0 * 1 * d → ⊥
-not_under x d h = omega arith
+pub sign_law : (v : Float) → is_sign_negative v ≡ negative v
+unfolding is_sign_negative
+sign_law nan = refl
+sign_law (inf s) = refl
+sign_law (fin s m e) = refl
 
--- a value below zero has a minus
-below_at : (v : Float) → lt v origin ≡ true → (neg v ≡ abs v) × (true ≡ negative v)
-unfolding lt neg
-below_at nan h = absurd (false≢true h)
-below_at (inf true) h = (refl, refl)
-below_at (inf false) h = absurd (false≢true h)
-below_at (fin true m e) h = (refl, refl)
-below_at (fin false m e) h = absurd (not_under (m * up e) (down e) (ltb-true (m * up e * 1) (0 * 1 * down e) h))
+pub no_sign : (v : Float) → is_nan v ≡ true → false ≡ negative v
+unfolding is_nan
+no_sign nan h = refl
+no_sign (inf s) h = absurd (false≢true h)
+no_sign (fin s m e) h = absurd (false≢true h)
 
-under : (x d : ℕ) → 0 < x → 0 < x * 1 + 0 * 1 * d
-under x d h = omega arith
+-- ---- the total order of two numbers: the last test is by the signs
+by_signs : (s t : Bool) → (ordering_index (cond s (cond t Equal Less) (cond t Greater Equal)) == 0) ≡ (s && not t)
+by_signs true true = refl
+by_signs true false = refl
+by_signs false true = refl
+by_signs false false = refl
 
--- what is neither below zero nor a zero has none
-rest_at : (v : Float) → lt v origin ≡ false → eq v origin ≡ false → (v ≡ abs v) × (false ≡ negative v)
-unfolding lt
-rest_at nan a b = (refl, refl)
-rest_at (inf true) a b = absurd (true≢false a)
-rest_at (inf false) a b = (refl, refl)
-rest_at (fin false m e) a b = (refl, refl)
-rest_at (fin true zero e) a b = absurd (true≢false (sym (equals_zero true e) ∙ b))
-rest_at (fin true (suc m) e) a b =
-    absurd (true≢false (sym (lt-ltb 0 (suc m * up e * 1 + 0 * 1 * down e) (under (suc m * up e) (down e) (mul-pos (zero-lt-suc m) (up_pos e)))) ∙ a))
+module _ (a b : Float) (A : is_nan a ≡ false) (B : is_nan b ≡ false) where
+  a_number : NotNan a
+  a_number = rw A tt
 
-more_than_one : (k : ℕ) → 2 ^ suc k ≡ 1 → ⊥
-more_than_one k h = lt_irrefl 1 (lt_of_lt_of_le (pow-lt (zero-lt-suc k)) (le_of_eq h))
+  b_number : NotNan b
+  b_number = rw B tt
 
--- a zero of a format is written in one way
-zero_form : (f : Format) (s : Bool) (e : ℤ) → T (fits f (fin s zero e)) → e ≡ pos 0
-unfolding fits
-zero_form f s (pos zero) h = refl
-zero_form f s (pos (suc k)) h = absurd (more_than_one k (sym (mul-one (2 ^ suc k)) ∙ eqb→eq (2 ^ suc k * 1) 1 h))
-zero_form f s (negsuc k) h = absurd (more_than_one k (sym (one-mul (2 ^ suc k)) ∙ eqb→eq (1 * 2 ^ suc k) 1 h))
+  -- where neither is below the other they are equal, and where one is they are not
+  level : lt a b ≡ false → lt b a ≡ false → (x : Bool) → eq a b ≡ x → x ≡ true
+  unfolding le
+  level l g true e = refl
+  level l g false e = absurd (false≢true (sym g ∙ is_true (lt b a) (lt_of_not-le a b a_number b_number (rw (l, e) tt))))
+    where
+      is_true : (x : Bool) → T x → x ≡ true
+      is_true true h = refl
+      is_true false h = absurd h
 
-module _ (f : Format) (v : Float) where
-  pub below_by : lt v (of_bits f 0) ≡ true → (neg v ≡ abs v) × (true ≡ negative v)
-  below_by h = below_at v (ap (lt v) (sym (zero_is f)) ∙ h)
+  apart : lt a b ≡ false → lt b a ≡ true → (x : Bool) → eq a b ≡ x → x ≡ false
+  unfolding le
+  apart l g false e = refl
+  apart l g true e = absurd (lt_irrefl b (lt_of_lt_of_le b a b (rw g tt) (rw (l, e) tt)))
 
-  pub rest_by : lt v (of_bits f 0) ≡ false → eq v (of_bits f 0) ≡ false → (v ≡ abs v) × (false ≡ negative v)
-  rest_by a b = rest_at v (ap (lt v) (sym (zero_is f)) ∙ a) (ap (eq v) (sym (zero_is f)) ∙ b)
-
-  pub abs_zero : T (fits f v) → eq v (of_bits f 0) ≡ true → of_bits f 0 ≡ abs v
-  abs_zero h a =
-      let z = zero_by f v a in
-      zero_is f
-      ∙ ap (fin false 0) (sym (zero_form f z.0 z.1 (subst (λ (x : Float). T (fits f x)) z.2 h)))
-      ∙ ap abs (sym z.2)
-
--- one over a zero has the zero's sign
-over_zero : (s : Bool) (e : ℤ) → lt (div binary32 (of_bits binary32 0x3f80_0000) (fin s zero e)) (of_bits binary32 0) ≡ s
-unfolding lt div of_bits
-over_zero true e = refl
-over_zero false e = refl
-
-pub zero_sign : (v : Float) → eq v (of_bits binary32 0) ≡ true → lt (div binary32 (of_bits binary32 0x3f80_0000) v) (of_bits binary32 0) ≡ negative v
-zero_sign v h =
-    let z = zero_by binary32 v h in
-    ap (λ (x : Float). lt (div binary32 (of_bits binary32 0x3f80_0000) x) (of_bits binary32 0)) z.2
-    ∙ over_zero z.0 z.1
-    ∙ ap negative (sym z.2)
-
--- ---- `a != a`
-same : (s : Bool) → beq s s ≡ true
-same true = refl
-same false = refl
-
-pub nan_is : (a : Float) → ne a a ≡ is_nan a
-unfolding ne eq is_nan
-nan_is nan = refl
-nan_is (inf s) = ap not (same s)
-nan_is (fin s m e) =
-    ap (λ (b : Bool). not (b && (beq s s || eqb (m * up e * down e) 0))) (eq-eqb (m * up e * down e) (m * up e * down e) refl)
-    ∙ ap (λ (b : Bool). not (b || eqb (m * up e * down e) 0)) (same s)
-
--- ---- the total order, by its tests
-and-false : (a : Bool) → (a && false) ≡ false
-and-false true = refl
-and-false false = refl
-
-module _ (a b : Float) where
-  pub total_nan : is_nan a ≡ true → false ≡ total_less a b
+  pub total_law : (ordering_index (total_cmp a b) == 0) ≡ total_less a b
   unfolding total_less
-  total_nan h = rw h
+  total_law = rw (A, B) (go (lt a b) (lt b a) refl refl)
+    where
+      go : (l g : Bool) → lt a b ≡ l → lt b a ≡ g
+          → (ordering_index (cond l Less (cond g Greater (cond (is_sign_negative a) (cond (is_sign_negative b) Equal Less) (cond (is_sign_negative b) Greater Equal)))) == 0)
+          ≡ (l || (eq a b && negative a && not (negative b)))
+      go true g l h = refl
+      go false true l h = rw (apart l h (eq a b) refl)
+      go false false l h = rw (level l h (eq a b) refl, sign_law a, sign_law b) (by_signs (negative a) (negative b))
 
-  pub total_over : is_nan a ≡ false → is_nan b ≡ true → true ≡ total_less a b
-  unfolding total_less
-  total_over h k = rw (h, k)
+-- ---- and where one is NaN
+pub total_nan : (a b : Float) → is_nan a ≡ true → false ≡ total_less a b
+unfolding total_less
+total_nan a b h = rw h
 
-  pub total_less_law : is_nan a ≡ false → is_nan b ≡ false → lt a b ≡ true → true ≡ total_less a b
-  unfolding total_less
-  total_less_law h k l = rw (h, k, l)
-
-  pub total_zeros : is_nan a ≡ false → is_nan b ≡ false → lt a b ≡ false → eq a b ≡ true → negative a ≡ true → not (negative b) ≡ total_less a b
-  unfolding total_less
-  total_zeros h k l e s = rw (h, k, l, e, s)
-
-  pub total_plus : is_nan a ≡ false → is_nan b ≡ false → lt a b ≡ false → eq a b ≡ true → negative a ≡ false → false ≡ total_less a b
-  unfolding total_less
-  total_plus h k l e s = rw (h, k, l, e, s)
-
-  pub total_more : is_nan a ≡ false → is_nan b ≡ false → lt a b ≡ false → eq a b ≡ false → false ≡ total_less a b
-  unfolding total_less
-  total_more h k l e = rw (h, k, l, e)
+pub total_over : (a b : Float) → is_nan a ≡ false → is_nan b ≡ true → true ≡ total_less a b
+unfolding total_less
+total_over a b h k = rw (h, k)

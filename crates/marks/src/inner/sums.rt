@@ -5,7 +5,7 @@ ghost use Rattle.ranges.specs.Interval.{AllIn};
 ghost use Rattle.ranges.specs.Mean.{sum_from, mean64, mean_of, square_off, squares_from};
 ghost use Rattle.marks.specs.Band.{deviation};
 
-use numbers::inner::root64;
+use numbers::root::BinaryFloat;
 use numbers::rounding::narrow;
 
 // The sum.
@@ -67,5 +67,5 @@ pub fn deviation(xs: &[f32], m: f64) -> f64
     requires xs_len_bound { length xs.now ≤ 12 }
     ensures { result ≡ deviation m xs.now }
 {
-    root64(squares(xs, m) / xs.len() as f64) / m
+    (squares(xs, m) / xs.len() as f64).root() / m
 }

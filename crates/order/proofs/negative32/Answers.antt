@@ -1,13 +1,10 @@
 -- `order::negative32` meets its contract. Assumes nothing.
-use lib.Ieee.{binary32}
-use Rattle.order.proofs.Laws.{below_by, rest_by, zero_sign}
+use Rattle.std.proofs.Common.{sym, ap, ◌∙◌, not}
+use Rattle.order.proofs.Laws.{sign_law, no_sign}
 use Rattle.order.proofs.negative32.Goals as goal
 
-pub returns-then-v : goal.returns-then-v
-returns-then-v c = (below_by binary32 c.args.v c.if-v.true).1
+pub returns-then-not-is_nan : goal.returns-then-not-is_nan
+returns-then-not-is_nan c = c.is_sign_negative.ensures ∙ sign_law _
 
-pub returns-then-v-2 : goal.returns-then-v-2
-returns-then-v-2 c = zero_sign c.args.v c.if-v-2.true
-
-pub returns : goal.returns
-returns c = (rest_by binary32 c.args.v c.if-v.false c.if-v-2.false).1
+pub returns-else-not-is_nan : goal.returns-else-not-is_nan
+returns-else-not-is_nan c = ap not c.if-not-is_nan.false ∙ no_sign _ (sym c.is_nan.ensures.value ∙ c.if-not-is_nan.false)

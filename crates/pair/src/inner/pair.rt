@@ -8,7 +8,8 @@ ghost use Rattle.pair.specs.Lock.{ratio_or, mended, constrained, boundary, ancho
 
 use crate::ClusterPair;
 use crate::inner::lock::initialize;
-use numbers::inner::{below_root, root32};
+use numbers::inner::below_root;
+use numbers::root::BinaryFloat;
 use order::clamp32;
 use ranges::within;
 
@@ -45,7 +46,7 @@ pub fn constrain(p: ClusterPair, has_hint: bool, hint: f32) -> ClusterPair
 pub fn boundary(p: ClusterPair) -> f32
     ensures { result ≡ boundary (view_pair p) }
 {
-    root32(p.lo * p.hi)
+    (p.lo * p.hi).root()
 }
 
 // Whether v is the first dit after assumed dahs.

@@ -3,30 +3,21 @@ use Rattle.std.proofs.Common.{arith}
 use Rattle.numbers.proofs.LogLaws.{begin, fits, again, ended}
 use Rattle.numbers.proofs.log.two_digits.Goals as goal
 
-pub loop-n-init : goal.loop-n-init
-loop-n-init c = (begin c.args.y c.requires.bound.0 c.requires.bound.1, begin c.args.z c.requires.bound_2.0 c.requires.bound_2.1)
+pub loop-init : goal.loop-init
+loop-init c = (begin c.args.y c.requires.bound.0 c.requires.bound.1, begin c.args.z c.requires.bound_2.0 c.requires.bound_2.1)
 
 pub one_digit-p-requires : goal.one_digit-p-requires
-one_digit-p-requires c = let g = c.loop-n.invariant.0 in (g.low, g.high, fits g)
+one_digit-p-requires c = let g = c.loop.invariant.0 in (g.low, g.high, fits g)
 
 pub one_digit-q-requires : goal.one_digit-q-requires
-one_digit-q-requires c = let g = c.loop-n.invariant.1 in (g.low, g.high, fits g)
+one_digit-q-requires c = let g = c.loop.invariant.1 in (g.low, g.high, fits g)
 
-pub overflow_add-n : goal.overflow_add-n
-overflow_add-n c = omega arith
-
-pub loop-n-smaller : goal.loop-n-smaller
-loop-n-smaller c = omega arith
-
-pub loop-n-preserved : goal.loop-n-preserved
-loop-n-preserved c =
+pub loop-preserved : goal.loop-preserved
+loop-preserved c =
     let p = c.one_digit-p.ensures in
     let q = c.one_digit-q.ensures in
-    let l = c.before.before in (
-      again l.loop-n.invariant.0 (omega arith) p.0 p.1,
-      again
-          l.loop-n.invariant.1 (omega arith) q.0 q.1,
-    )
+    let i = c.before.before.loop.invariant in
+    (again i.0 (omega arith) p.0 p.1, again i.1 (omega arith) q.0 q.1)
 
 pub returns : goal.returns
-returns c = let i = c.loop-n.invariant in (ended i.0 (omega arith), ended i.1 (omega arith))
+returns c = let i = c.loop.invariant in (ended i.0 (omega arith), ended i.1 (omega arith))

@@ -7,4 +7,4 @@ pub int_to_float-xs : goal.int_to_float-xs
 int_to_float-xs c = short_in _ (omega arith)
 
 pub returns : goal.returns
-returns c = rw (c.root64.ensures, c.squares.ensures)
+returns c = rw (c.root.ensures, c.squares.ensures)
