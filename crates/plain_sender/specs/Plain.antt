@@ -1,9 +1,8 @@
 -- What a host hands in and finds of a sender's statistics (document 01, "SenderTiming"): a class by its number, codes and readings in plain numbers. Definitions only.
-use Rattle.std.specs.Prelude.{◌≡◌, Bool, true, cond, ℕ, ◌+◌, T, eqb, Float}
+use Rattle.std.specs.Prelude.{◌≡◌, cond, ℕ, ◌+◌, T, eqb, Float}
 use Rattle.std.proofs.Math.Option.{Option, none, some}
 use Rattle.ranges.specs.Limits.{nought}
 use Rattle.sender.specs.declared.TimingClass.{TimingClass}
-use Rattle.sender.specs.declared.TimingClass.TheVariants.{Dot, Dash, ElementGap, CharGap, WordGap}
 use Rattle.sender.specs.declared.ClassStats.{ClassStats}
 use Rattle.sender.specs.declared.SenderTiming.{SenderTiming}
 use Rattle.sender.specs.Model.{Class, Timing, at, view, blank_class, with_stats}
@@ -12,15 +11,6 @@ use Rattle.sender.specs.Steps.{observed, dits, pauses, ratio, word_dits}
 use Rattle.sender.specs.Answers.{first_of, observe_refusal}
 use Rattle.plain_tracker.specs.Plain.{as_number, zeros}
 use Rattle.plain_sender.specs.declared.SenderReading.{SenderReading}
-
--- the class that has a number, 0 to 4
-abbrev pub class_of : ℕ → Option TimingClass
-class_of n =
-    cond (eqb n 0) (some Dot)
-    (cond (eqb n 1) (some Dash)
-    (cond (eqb n 2) (some ElementGap)
-    (cond (eqb n 3) (some CharGap)
-    (cond (eqb n 4) (some WordGap) none))))
 
 -- 0 where there is no refusal; else 128, which stands for R, and its number
 abbrev pub coded : ℕ → ℕ

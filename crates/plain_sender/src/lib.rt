@@ -1,37 +1,20 @@
-// A sender's statistics as a host in C or Rust has them: a class is its number, 0 to 4, and a refusal 128 and its number. The statistics are
-// plain numbers as they are: no flag stands in them, and no byte between them.
+// A sender's statistics as a host in C or Rust has them: a class is its number, 0 to 4, and a refusal 128 and its
+// number. The statistics are plain numbers as they are: no flag stands in them, and no byte between them.
 #![tactic(auto)]
 
-ghost use Rattle.std.specs.Prelude.{◌≡◌, T, ◌≤◌};
-ghost use Rattle.std.proofs.Math.Option.{none};
-ghost use Rattle.sender.specs.Model.{view, view_class};
-ghost use Rattle.sender.specs.Sound.{sound};
-ghost use Rattle.sender.specs.Answers.{of_told, of_length, of_ratio};
-ghost use Rattle.plain_sender.specs.Plain.{Observes, class_of, coded, no_reading, pauses_at, plain_class, reads, reading_of, sent_refusal};
-ghost use Rattle.plain_sender.specs.Parts.{number_in, of_named, refusal_in, said_in};
+ghost use Rattle.std.specs.Prelude.{◌≡◌};
+ghost use Rattle.refusals.specs.Refusal.{number, refusal_of};
+ghost use Rattle.sender.specs.Model.{class_of, view, view_class};
+ghost use Rattle.plain_sender.specs.Plain.{Observes, coded, pauses_at, plain_class, reads, reading_of};
 
-use sender::door::{is_sound, observe_refusal};
-use sender::inner::{dash_dot_ratio, is_pause, sender_word_dits};
-use sender::{ClassStats, Dits, Length, Millis, Ratio, SenderTiming, TimingClass, Told};
+use refusals::Refusal;
+use sender::door::observe_refusal;
+use sender::{ClassStats, Dits, Millis, SenderTiming, SoundTiming, TimingClass};
 
-// A class by its number, or that no class has it.
-#[derive(Clone, Copy)]
-pub enum Named {
-    Is(TimingClass),
-    Unknown,
-}
-
-// What was observed: its code, and the statistics.
-#[derive(Clone, Copy)]
-pub struct SenderObserved {
-    pub code: u8,
-    pub timing: SenderTiming,
-}
-
-// What a host shows of a sender: the dit as it was handed in, the ratio of dash to dot, the boundary between characters and words in
-// dits, and the five classes.
+// What a host shows of a sender: the dit as it was handed in, the ratio of dash to dot, the boundary between characters
+// and words in dits, and the five classes. A number stands beside each flag, since C's header has them so.
 #[repr(C)]
-#[derive(Clone, Copy)]
+#[derive(Clone, Copy, Default)]
 pub struct SenderReading {
     pub code: u8,
     pub has_ratio: u8,
@@ -47,109 +30,37 @@ pub struct SenderReading {
     pub word_gap: ClassStats,
 }
 
-// The class that has a number.
-pub fn class_named(n: u8) -> Named
-    ensures { of_named result ≡ class_of n }
+// A refusal as a host reads it.
+pub(crate) fn refused(refusal: Refusal) -> u8
+    ensures { result ≡ coded (number refusal) }
 {
-    match n {
-        0 => Named::Is(TimingClass::Dot),
-        1 => Named::Is(TimingClass::Dash),
-        2 => Named::Is(TimingClass::ElementGap),
-        3 => Named::Is(TimingClass::CharGap),
-        4 => Named::Is(TimingClass::WordGap),
-        _ => Named::Unknown,
+    128 + u8::from(refusal)
+}
+
+// One duration of a class: 0, or its refusal.
+pub fn observe(t: &mut SenderTiming, class: u8, dur_ms: f32, dit_ms: f32) -> u8
+    ensures { Observes (class_of class) dur_ms dit_ms t.old result t.new }
+{
+    match sent(t, class, Millis(dur_ms), Millis(dit_ms)) {
+        Ok(()) => 0,
+        Err(refusal) => refused(refusal),
     }
 }
 
-// The code of what `observe` says.
-pub(crate) fn told(t: Told) -> u8
-    requires { refusal_in (of_told t) ≤ 12 }
-    ensures { result ≡ coded (refusal_in (of_told t)) }
+// The same: where no class has the number it is refused by 12, unless it is refused before that.
+pub(crate) fn sent(
+    t: &mut SenderTiming,
+    class: u8,
+    dur_ms: Millis,
+    dit_ms: Millis,
+) -> Result<(), Refusal>
+    ensures { Observes (class_of class) dur_ms.0 dit_ms.0 t.old (coded (refusal_of result)) t.new }
 {
-    match t {
-        Told::Done => 0,
-        Told::Refused(n) => coded_as(n),
-    }
-}
-
-// A refusal's number as a host reads it; 0 where there is none.
-pub(crate) fn coded_as(n: u8) -> u8
-    requires { n ≤ 12 }
-    ensures { result ≡ coded n }
-{
-    if n == 0 { 0 } else { 128 + n }
-}
-
-// The code of an observation of no class: 12, or what is refused before that.
-pub(crate) fn unnamed(t: SenderTiming, dur_ms: f32, dit_ms: f32) -> u8
-    ensures { result ≡ coded (sent_refusal none dur_ms dit_ms (view t)) }
-{
-    let why = observe_refusal(t, Millis(dur_ms), Millis(dit_ms));
-    if why == 0 { 140 } else { coded_as(why) }
-}
-
-// One duration of a class.
-pub fn observed(t: SenderTiming, class: u8, dur_ms: f32, dit_ms: f32) -> SenderObserved
-    ensures { Observes (class_of class) dur_ms dit_ms t result.code result.timing }
-{
-    let k = class_named(class);
-    match k {
-        Named::Is(c) => {
-            let r = t.observe(c, Millis(dur_ms), Millis(dit_ms));
-            let timing = r.timing;
-            let why = r.told;
-            SenderObserved {
-                code: told(why),
-                timing,
-            }
-        }
-        Named::Unknown => SenderObserved {
-            code: unnamed(t, dur_ms, dit_ms),
-            timing: t,
-        },
-    }
-}
-
-// Whether there is a ratio, and the ratio; 0 where there is none.
-pub(crate) fn has_ratio(q: Ratio) -> u8
-    ensures { result ≡ said_in (of_ratio q) }
-{
-    match q {
-        Ratio::Is(_) => 1,
-        Ratio::Absent => 0,
-        Ratio::Refused(_) => 0,
-    }
-}
-
-pub(crate) fn ratio_or(q: Ratio) -> f32
-    ensures { result ≡ number_in (of_ratio q) }
-{
-    match q {
-        Ratio::Is(x) => x,
-        Ratio::Absent => 0.0,
-        Ratio::Refused(_) => 0.0,
-    }
-}
-
-// Whether there is a length, and the length; 0 where there is none.
-pub(crate) fn has_length(l: Length) -> u8
-    ensures { result ≡ said_in (of_length l) }
-{
-    match l {
-        Length::Is(_) => 1,
-        Length::Absent => 0,
-        Length::Refused(_) => 0,
-    }
-}
-
-pub(crate) fn length_or(l: Length) -> f32
-    ensures { result ≡ number_in (of_length l) }
-{
-    match l {
-        Length::Is(x) => x.0,
-        Length::Absent => 0.0,
-        Length::Refused(_) => 0.0,
-    }
+    let Ok(named) = TimingClass::try_from(class) else {
+        observe_refusal(*t, dur_ms, dit_ms)?;
+        return Err(Refusal::BadLine);
+    };
+    t.observe(named, dur_ms, dit_ms)
 }
 
 // A class as a host shows it: zeros where there is none.
@@ -157,87 +68,53 @@ pub(crate) fn stats_of(c: ClassStats) -> ClassStats
     ensures { result ≡ plain_class (view_class c) }
 {
     if c.n == 0 {
-        return ClassStats {
-            mean: Dits(0.0),
-            var: 0.0,
-            n: 0,
-        };
+        return ClassStats::default();
     }
     c
 }
 
 // What sound statistics show.
-pub(crate) fn read_of(t: SenderTiming, dit_ms: f32) -> SenderReading
-    requires { T (sound (view t)) }
-    ensures { result ≡ reading_of dit_ms (view t) }
+pub(crate) fn read_of(s: SoundTiming, dit_ms: f32) -> SenderReading
+    ensures { result ≡ reading_of dit_ms (view s.timing) }
 {
-    let q = dash_dot_ratio(t);
-    let w = sender_word_dits(t);
-    let dot = t.dot;
-    let dash = t.dash;
-    let element_gap = t.element_gap;
-    let char_gap = t.char_gap;
-    let word_gap = t.word_gap;
+    let ratio = s.dash_dot_ratio();
+    let word = s.sender_word_dits().map(|d| d.0);
+    let t = s.timing;
     SenderReading {
         code: 0,
-        has_ratio: has_ratio(q),
-        has_word: has_length(w),
+        has_ratio: u8::from(ratio.is_some()),
+        has_word: u8::from(word.is_some()),
         pad_has_word: [0; 1],
         dit_ms,
-        ratio: ratio_or(q),
-        word_dits: length_or(w),
-        dot: stats_of(dot),
-        dash: stats_of(dash),
-        element_gap: stats_of(element_gap),
-        char_gap: stats_of(char_gap),
-        word_gap: stats_of(word_gap),
+        ratio: ratio.unwrap_or(0.0),
+        word_dits: word.unwrap_or(0.0),
+        dot: stats_of(t.dot),
+        dash: stats_of(t.dash),
+        element_gap: stats_of(t.element_gap),
+        char_gap: stats_of(t.char_gap),
+        word_gap: stats_of(t.word_gap),
     }
 }
 
-// Where the statistics are unsound.
-pub(crate) fn no_reading() -> SenderReading
-    ensures { result ≡ no_reading }
-{
-    let z = ClassStats {
-        mean: Dits(0.0),
-        var: 0.0,
-        n: 0,
-    };
-    SenderReading {
-        code: 129,
-        has_ratio: 0,
-        has_word: 0,
-        pad_has_word: [0; 1],
-        dit_ms: 0.0,
-        ratio: 0.0,
-        word_dits: 0.0,
-        dot: z,
-        dash: z,
-        element_gap: z,
-        char_gap: z,
-        word_gap: z,
-    }
-}
-
-// What a host shows of a sender, or a refusal by 1.
+// What a host shows of a sender; zeros where it is refused.
 pub fn reading(t: SenderTiming, dit_ms: f32) -> SenderReading
     ensures { result ≡ reads dit_ms t }
 {
-    if is_sound(t) {
-        return read_of(t, dit_ms);
+    match SoundTiming::try_from(t) {
+        Ok(sound) => read_of(sound, dit_ms),
+        Err(refusal) => SenderReading {
+            code: refused(refusal),
+            ..SenderReading::default()
+        },
     }
-    no_reading()
 }
 
-// Whether a closed word gap is a pause rather than the sender's word spacing: 0 no, 1 yes, or a refusal by 1.
+// Whether a closed word gap is a pause rather than the sender's word spacing: 0 no, 1 yes, or its refusal.
 pub fn pause(t: SenderTiming, dits: f32) -> u8
     ensures { result ≡ pauses_at dits t }
 {
-    if is_sound(t) {
-        if is_pause(t, Dits(dits)) {
-            return 1;
-        }
-        return 0;
+    match t.is_pause(Dits(dits)) {
+        Ok(yes) => u8::from(yes),
+        Err(refusal) => refused(refusal),
     }
-    129
 }

@@ -1,22 +1,17 @@
 -- What the answers mean, and which refusal a call meets (document 01, "Refusals in checking order"). Definitions only.
-use Rattle.std.specs.Prelude.{◌≡◌, Bool, cond, ℕ, zero, suc, T, Float}
+use Rattle.std.specs.Prelude.{◌≡◌, Bool, cond, ℕ, zero, suc, T, Float, Result, Ok, Err}
+use Rattle.std.specs.Prelude as P
 use Rattle.std.proofs.Math.Option.{Option, none, some}
 use Rattle.ranges.specs.Interval.{within}
 use Rattle.ranges.specs.Limits.{duration_refusal}
 use Rattle.sender.specs.declared.TimingClass.{TimingClass}
 use Rattle.sender.specs.declared.SenderTiming.{SenderTiming}
-use Rattle.sender.specs.declared.Told.{Told}
-use Rattle.sender.specs.declared.Told.TheVariants as Tell
-use Rattle.sender.specs.declared.Length.{Length}
-use Rattle.sender.specs.declared.Length.TheVariants as Len
-use Rattle.sender.specs.declared.Ratio.{Ratio}
-use Rattle.sender.specs.declared.Ratio.TheVariants as Rat
-use Rattle.sender.specs.declared.Yes.{Yes}
-use Rattle.sender.specs.declared.Yes.TheVariants as Y
-use Rattle.sender.specs.declared.Report.{Report}
-use Rattle.sender.specs.declared.Report.TheVariants as Rep
+use Rattle.sender.specs.declared.Dits.{Dits}
+use Rattle.sender.specs.declared.TimingEstimates.{TimingEstimates}
+use Rattle.refusals.specs.declared.Refusal.{Refusal}
+use Rattle.refusals.specs.Refusal.{number}
 use Rattle.sender.specs.Constants.{dit_min, dit_max}
-use Rattle.sender.specs.Model.{Timing, view, view_estimates, at}
+use Rattle.sender.specs.Model.{Timing, view, view_estimates, at, held, length_in}
 use Rattle.sender.specs.Sound.{sound}
 use Rattle.sender.specs.Steps as S
 
@@ -30,29 +25,30 @@ pub data Answer : Type 0 where
   report : Float → Timing → Answer
   refused : ℕ → Answer
 
--- ---- the cases of each enum
+-- a number that may be absent
+abbrev pub optional : (Float → Answer) → Option Float → Answer
+optional f none = absent
+optional f (some x) = f x
 
-abbrev pub of_told : Told → Answer
-of_told Tell.Done = done
-of_told (Tell.Refused n) = refused n
+-- ---- what each call's result says: f of its value, or its refusal
+abbrev pub of_result : {A : Type 0} → (A → Answer) → Result A Refusal → Answer
+of_result f (Ok a) = f a
+of_result f (Err r) = refused (number r)
 
-abbrev pub of_length : Length → Answer
-of_length (Len.Is x) = in_dits x.0
-of_length Len.Absent = absent
-of_length (Len.Refused n) = refused n
+abbrev pub of_told : Result Unit Refusal → Answer
+of_told r = of_result (λ _. done) r
 
-abbrev pub of_ratio : Ratio → Answer
-of_ratio (Rat.Is x) = ratio x
-of_ratio Rat.Absent = absent
-of_ratio (Rat.Refused n) = refused n
+abbrev pub of_length : Result (P.Option Dits) Refusal → Answer
+of_length r = of_result (λ o. optional in_dits (length_in o)) r
 
-abbrev pub of_yes : Yes → Answer
-of_yes (Y.Is b) = flag b
-of_yes (Y.Refused n) = refused n
+abbrev pub of_ratio : Result (P.Option Float) Refusal → Answer
+of_ratio r = of_result (λ o. optional ratio (held o)) r
 
-abbrev pub of_report : Report → Answer
-of_report (Rep.Is e) = report e.dit_ms.0 (view_estimates e)
-of_report (Rep.Refused n) = refused n
+abbrev pub of_yes : Result Bool Refusal → Answer
+of_yes r = of_result flag r
+
+abbrev pub of_report : Result TimingEstimates Refusal → Answer
+of_report r = of_result (λ e. report e.dit_ms.0 (view_estimates e)) r
 
 -- ---- refusals; 0 where there is none
 
@@ -79,11 +75,6 @@ abbrev pub observe_refusal : Timing → Float → Float → ℕ
 observe_refusal t dur dit = first_of (state_refusal t) (first_of (duration_refusal dur) (dit_refusal dit))
 
 -- ---- what each call says of sound statistics
-
--- a number that may be absent
-abbrev pub optional : (Float → Answer) → Option Float → Answer
-optional f none = absent
-optional f (some x) = f x
 
 abbrev pub mean_said : TimingClass → Timing → Answer
 mean_said k t = optional in_dits (S.mean_of (at k t))

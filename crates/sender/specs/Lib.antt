@@ -3,3 +3,4 @@ pub mod Model
 pub mod Sound
 pub mod Steps
 pub mod Answers
+pub mod Lending

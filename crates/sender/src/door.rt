@@ -1,53 +1,34 @@
-// The refusals of the calls: what each tests before it does anything.
-ghost use Rattle.std.specs.Prelude.{◌≡◌};
-ghost use Rattle.sender.specs.Model.{view, view_class};
-ghost use Rattle.sender.specs.Sound.{class_sound, sound};
-ghost use Rattle.sender.specs.Answers.{observe_refusal};
+// What `observe` tests of a duration before it does anything.
+ghost use Rattle.std.specs.Prelude.{◌≡◌, IfOk};
+ghost use Rattle.refusals.specs.Refusal.{refusal_of};
+ghost use Rattle.ranges.specs.Interval.{In};
+ghost use Rattle.ranges.specs.Limits.{class_min, class_max, duration_refusal};
+ghost use Rattle.sender.specs.Model.{view};
+ghost use Rattle.sender.specs.Steps.{dits};
+ghost use Rattle.sender.specs.Answers.{first_of, dit_refusal, observe_refusal};
 
-use crate::{ClassStats, Millis, SenderTiming};
-use order::is_finite32;
-use ranges::{duration_refusal, within};
+use crate::{Dits, Millis, SenderTiming, SoundTiming};
+use ranges::{Duration, within};
+use refusals::Refusal;
 
-// Whether a class is as refusal 1 wants it; where nothing was observed there is nothing to test.
-pub fn is_class_sound(s: ClassStats) -> bool
-    ensures { result ≡ class_sound (view_class s) }
+// The one place where milliseconds become dits.
+pub(crate) fn measured(dur_ms: Millis, dit_ms: Millis) -> Result<Dits, Refusal>
+    ensures refused { refusal_of result ≡ first_of (duration_refusal dur_ms.0) (dit_refusal dit_ms.0) }
+    ensures in_dits { IfOk result (λ x. x.0 ≡ dits dur_ms.0 dit_ms.0) }
+    ensures in_range { IfOk result (λ x. In class_min class_max x.0) }
 {
-    if s.n == 0 {
-        return true;
+    let dur = Duration::try_from(dur_ms.0)?;
+    if !within(dit_ms.0, 20.0, 150.0) {
+        return Err(Refusal::BadDit);
     }
-    if within(s.mean.0, 0.0001, 13108.0) {
-        if 0.0 <= s.var {
-            return is_finite32(s.var);
-        }
-    }
-    false
+    Ok(Dits(dur.ms / dit_ms.0))
 }
 
-// Whether all five are.
-pub fn is_sound(s: SenderTiming) -> bool
-    ensures { result ≡ sound (view s) }
+// Whether `observe` refuses: by 1, 5 to 7 or 9.
+pub fn observe_refusal(s: SenderTiming, dur_ms: Millis, dit_ms: Millis) -> Result<(), Refusal>
+    ensures { refusal_of result ≡ observe_refusal (view s) dur_ms.0 dit_ms.0 }
 {
-    let dot = is_class_sound(s.dot);
-    let dash = is_class_sound(s.dash);
-    let element_gap = is_class_sound(s.element_gap);
-    let char_gap = is_class_sound(s.char_gap);
-    let word_gap = is_class_sound(s.word_gap);
-    dot & dash & element_gap & char_gap & word_gap
-}
-
-// The refusal of `observe`: 1, 5 to 7 or 9, or 0 where there is none.
-pub fn observe_refusal(s: SenderTiming, dur_ms: Millis, dit_ms: Millis) -> u8
-    ensures { result ≡ observe_refusal (view s) dur_ms.0 dit_ms.0 }
-{
-    if is_sound(s) {
-        let why = duration_refusal(dur_ms.0);
-        if why == 0 {
-            if within(dit_ms.0, 20.0, 150.0) {
-                return 0;
-            }
-            return 9;
-        }
-        return why;
-    }
-    1
+    SoundTiming::try_from(s)?;
+    measured(dur_ms, dit_ms)?;
+    Ok(())
 }

@@ -7,7 +7,7 @@
 
 use exports::of_sender as calls;
 use replay::{float, put_byte, put_float, put_word};
-use sender::{ClassStats, Dits, SenderTiming};
+use sender::{ClassStats, Dits, SenderTiming, TimingClass};
 use std::io;
 use std::io::{BufWriter, Read, Write};
 
@@ -20,11 +20,10 @@ fn put_class<W: Write>(out: &mut W, c: ClassStats) -> io::Result<()> {
 
 // The five classes.
 fn put_classes<W: Write>(out: &mut W, t: SenderTiming) -> io::Result<()> {
-    put_class(out, t.dot)?;
-    put_class(out, t.dash)?;
-    put_class(out, t.element_gap)?;
-    put_class(out, t.char_gap)?;
-    put_class(out, t.word_gap)
+    for c in [t.dot, t.dash, t.element_gap, t.char_gap, t.word_gap] {
+        put_class(out, c)?;
+    }
+    Ok(())
 }
 
 // The start of an answer: letter, code, whether there is a number or yes, and the number.
@@ -39,20 +38,6 @@ fn put_answer<W: Write>(
     replay::put_code(out, code)?;
     replay::put_flag(out, has)?;
     put_float(out, value)
-}
-
-// The statistics with one class set.
-fn with_class(t: SenderTiming, class: u8, c: ClassStats) -> SenderTiming {
-    match class {
-        0 => SenderTiming { dot: c, ..t },
-        1 => SenderTiming { dash: c, ..t },
-        2 => SenderTiming {
-            element_gap: c,
-            ..t
-        },
-        3 => SenderTiming { char_gap: c, ..t },
-        _ => SenderTiming { word_gap: c, ..t },
-    }
 }
 
 // A call that reads a number.
@@ -88,57 +73,46 @@ fn read_call<W: Write>(
     }
 }
 
-// One line: what the statistics are afterwards.
-fn run<W: Write>(out: &mut W, t: SenderTiming, line: &[u8; 31]) -> io::Result<SenderTiming> {
+// One line.
+fn run<W: Write>(out: &mut W, t: &mut SenderTiming, line: &[u8; 31]) -> io::Result<()> {
     let letter = replay::letter(line);
     let class = replay::number(line);
     let x = float(replay::first(line));
     let y = float(replay::second(line));
     match letter {
         b'O' => {
-            let r = calls::hullathan_sender_observe_by_value(t, class, x, y);
-            put_answer(out, letter, r.code, false, 0.0)?;
-            Ok(r.timing)
+            let r = calls::hullathan_sender_observe_by_value(*t, class, x, y);
+            *t = r.timing;
+            put_answer(out, letter, r.code, false, 0.0)
         }
         b'S' => {
-            put_answer(out, letter, 0, false, 0.0)?;
-            let c = ClassStats {
-                mean: Dits(x),
-                var: y,
-                n: replay::third(line),
-            };
-            Ok(with_class(t, class, c))
+            if let Ok(named) = TimingClass::try_from(class) {
+                t[named] = ClassStats {
+                    mean: Dits(x),
+                    var: y,
+                    n: replay::third(line),
+                };
+            }
+            put_answer(out, letter, 0, false, 0.0)
         }
         b'N' => {
-            put_answer(out, letter, 0, false, 0.0)?;
-            Ok(calls::hullathan_sender_new())
+            *t = calls::hullathan_sender_new();
+            put_answer(out, letter, 0, false, 0.0)
         }
-        _ => {
-            read_call(out, t, letter, class, x)?;
-            Ok(t)
-        }
+        _ => read_call(out, *t, letter, class, x),
     }
 }
 
-// One line in and one out: the statistics after it, and whether there was a line.
-#[derive(Clone, Copy)]
-struct After {
-    timing: SenderTiming,
-    more: bool,
-}
-
-fn step<I: Read, W: Write>(input: &mut I, out: &mut W, t: SenderTiming) -> io::Result<After> {
+// One line in and one out; whether there was a line.
+fn step<I: Read, W: Write>(input: &mut I, out: &mut W, t: &mut SenderTiming) -> io::Result<bool> {
     let mut line = [0u8; 31];
-    if replay::next(input, &mut line)? {
-        let timing = run(out, t, &line)?;
-        put_classes(out, timing)?;
-        put_byte(out, b'\n')?;
-        return Ok(After { timing, more: true });
+    if !replay::next(input, &mut line)? {
+        return Ok(false);
     }
-    Ok(After {
-        timing: t,
-        more: false,
-    })
+    run(out, t, &line)?;
+    put_classes(out, *t)?;
+    put_byte(out, b'\n')?;
+    Ok(true)
 }
 
 // A proved loop has to end, so the turns are counted: no run uses them up.
@@ -147,9 +121,7 @@ fn main(rt: HostRuntime) -> io::Result<()> {
     let mut out = BufWriter::new(rt.alloc(), rt.stdout())?;
     let mut t = calls::hullathan_sender_new();
     for _ in 0..u64::MAX {
-        let s = step(&mut input, &mut out, t)?;
-        t = s.timing;
-        if !s.more {
+        if !step(&mut input, &mut out, &mut t)? {
             break;
         }
     }
