@@ -11,9 +11,9 @@ ghost use Rattle.bank.specs.Parts.{widest};
 ghost use Rattle.bank.specs.Sound.{sound};
 ghost use Rattle.bank.specs.Answers.{Answers, Hears, Started, Switches, bank_then, clear_refusal, heard_refusal, of_logged, of_tally, ready_refusal, showing, switch_refusal, to_told};
 
+use crate::inner::door::{clear_call, heard_call, ready_call, switch_call};
 use crate::inner::fresh::{fresh, no_challenger};
 use crate::inner::leave::unchanged;
-use crate::inner::refusals::{clear_call, heard_call, ready_call, switch_call};
 use crate::inner::sound::is_sound;
 use crate::inner::{clear, gap, mark, ready, switch};
 use crate::{Answered, Challenger, Heard, Logged, Place, Switched, Tally, TimingBank};

@@ -2,13 +2,13 @@
 pub mod among;
 pub mod beat;
 pub mod clear;
+pub mod door;
 pub mod every;
 pub mod fresh;
 pub mod gap;
 pub mod leave;
 pub mod mark;
 pub mod ready;
-pub mod refusals;
 pub mod sound;
 pub mod space;
 pub mod spawn;

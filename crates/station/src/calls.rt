@@ -9,8 +9,8 @@ ghost use Rattle.bank.specs.Answers.{of_tally, showing};
 ghost use Rattle.station.specs.View.{view};
 ghost use Rattle.station.specs.Answers.{Begins, Called, count_of, glimpse, rival_of, station_then};
 
+use crate::inner::door::refuse;
 use crate::inner::readers::{count_of, glimpse, no_rival};
-use crate::inner::refusals::refuse;
 use crate::inner::sound::is_sound;
 use crate::inner::{call as known, fresh as begun};
 use crate::{Outcome, Rival, Started, Station};

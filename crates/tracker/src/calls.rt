@@ -11,7 +11,7 @@ ghost use Rattle.tracker.specs.Steps.{bootstrapped, can_begin, dit_estimate, fre
 ghost use Rattle.pair.specs.Readings.{gaps_say_dahs};
 ghost use Rattle.tracker.specs.Answers.{Answers, count, done, flag, list_refusal, number, of_count, of_flag, of_reading, of_told, optional, speed_refusal, state_then, unless};
 
-use crate::inner::refusals::{duration_call, list_call, speed_call};
+use crate::inner::door::{duration_call, list_call, speed_call};
 use crate::inner::sound::is_sound;
 use crate::inner::{begin, gaps, mark, resolve, speed};
 use crate::{Answered, Count, Flag, Flagged, Reading, SpeedTracker, Told};

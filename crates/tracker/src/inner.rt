@@ -1,9 +1,9 @@
 // What the calls do, for states that are sound: each function asks what it needs.
 pub mod begin;
+pub mod door;
 pub mod drift;
 pub mod gaps;
 pub mod mark;
-pub mod refusals;
 pub mod relock;
 pub mod resolve;
 pub mod rivals;

@@ -18,7 +18,7 @@ use crate::inner::spawn::spawn;
 use crate::{Changed, TimingBank};
 use bank_model::Origin;
 use bank_model::inner::scores::{duplicates, log_of};
-use numbers::inner::root32;
+use numbers::root::BinaryFloat;
 use pair::ClusterPair;
 use tracker::inner::rivals::{Alternative, from_marks, three_to_one_alternative};
 
@@ -26,7 +26,7 @@ use tracker::inner::rivals::{Alternative, from_marks, three_to_one_alternative};
 pub fn is_high(p: ClusterPair, d: f32) -> bool
     ensures { result ≡ le (boundary (view_pair p)) d }
 {
-    root32(p.lo * p.hi) <= d
+    (p.lo * p.hi).root() <= d
 }
 
 // Whether a mark on this side goes on with the streak.

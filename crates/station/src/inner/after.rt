@@ -11,7 +11,7 @@ ghost use Rattle.station.specs.Parts.{Open, Solid, Steady};
 ghost use Rattle.station.specs.After.{Holds};
 
 use crate::Station;
-use crate::inner::refusals::{fault, is_full};
+use crate::inner::door::{fault, is_full};
 use bank::inner::gap::on_gap;
 use bank::inner::switch::take_switch;
 use rival::inner::each::hear_one;

@@ -3,8 +3,8 @@ ghost use Rattle.ranges.specs.Settings.{standard};
 ghost use Rattle.station.specs.Parts.{Next, Solid, Steady};
 ghost use Rattle.station.specs.Answers.{Called};
 
+use crate::inner::door::{call_refusal, refuse};
 use crate::inner::events::step;
-use crate::inner::refusals::{call_refusal, refuse};
 use crate::{Outcome, Station};
 use station_model::Event;
 
