@@ -1,5 +1,4 @@
 pub mod Answers
-pub mod Classes
 pub mod Handing
 pub mod Banking
 pub mod Rivals

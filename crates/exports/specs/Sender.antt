@@ -1,27 +1,16 @@
 -- How the answers of `sender` leave by C's way. Definitions only.
-use Rattle.std.specs.Prelude.{◌≡◌, Bool, true, false, cond, ℕ, eqb, Float}
+use Rattle.std.specs.Prelude.{◌≡◌, true, false, ℕ, Float}
 use Rattle.std.proofs.Math.Option.{Option, none, some}
 use Rattle.ranges.specs.Limits.{nought}
 use Rattle.sender.specs.declared.TimingClass.{TimingClass}
-use Rattle.sender.specs.declared.TimingClass.TheVariants.{Dot, Dash, ElementGap, CharGap, WordGap}
 use Rattle.sender.specs.declared.ClassStats.{ClassStats}
 use Rattle.sender.specs.declared.SenderTiming.{SenderTiming}
 use Rattle.sender.specs.Model.{Class, Timing, view, blank_class, blank, stats_of, with_stats}
 use Rattle.sender.specs.Steps.{observed, dits}
 use Rattle.sender.specs.Answers.{Answer, done, flag, in_dits, ratio, absent, report, refused, unless, state_refusal, observe_refusal, mean_said, Left}
-use Rattle.exports.specs.declared.of_sender.Named.{Named}
-use Rattle.exports.specs.declared.of_sender.Named.TheVariants as N
 use Rattle.exports.specs.declared.of_sender.SenderNumber.{SenderNumber}
 use Rattle.exports.specs.declared.of_sender.SenderFlag.{SenderFlag}
 use Rattle.exports.specs.declared.of_sender.SenderReport.{SenderReport}
-
--- the class that has a number, 0 to 4
-abbrev pub class_of : ℕ → Option TimingClass
-class_of n = cond (eqb n 0) (some Dot) (cond (eqb n 1) (some Dash) (cond (eqb n 2) (some ElementGap) (cond (eqb n 3) (some CharGap) (cond (eqb n 4) (some WordGap) none))))
-
-abbrev pub of_named : Named → Option TimingClass
-of_named (N.Is k) = some k
-of_named N.Unknown = none
 
 -- the code where no class has the number given
 abbrev pub unknown : ℕ

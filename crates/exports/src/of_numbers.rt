@@ -3,27 +3,36 @@ ghost use Rattle.std.specs.Prelude.{◌≡◌};
 ghost use Rattle.std.specs.Float.{binary32, binary64};
 ghost use Rattle.std.specs.Float.Ieee.{lt};
 ghost use Rattle.std.specs.Float.Ieee.Scale.{finite};
+ghost use Rattle.numbers.specs.Answers.{said_as};
 ghost use Rattle.numbers.specs.Log.{ln_said};
 ghost use Rattle.order.specs.Order.{clamp, larger, abs, negative, total_less};
 ghost use Rattle.numbers.specs.Root.{sqrt_of, sqrt_said};
 ghost use Rattle.numbers.specs.Values.{narrow};
 ghost use Rattle.exports.specs.Answers.{code, left};
 
-use numbers::{Answer32, Answer64};
+use numbers::root::BinaryFloat;
+use refusals::Refusal;
+
+// The number of a refusal; 0 for a value, which is left behind `out`.
+fn handed<F: BinaryFloat>(answer: Result<F, Refusal>, out: &mut F) -> u8
+    ensures value { result ≡ code (said_as F.float answer) }
+    ensures out_after { F.float out.new ≡ left (said_as F.float answer) (F.float out.old) }
+{
+    match answer {
+        Ok(x) => {
+            *out = x;
+            0
+        }
+        Err(refusal) => refusal.into(),
+    }
+}
 
 // The natural logarithm of v; refused by 10.
 pub fn hullathan_ln(v: f32, out: &mut f32) -> u8
     ensures value { result ≡ code (ln_said v) }
     ensures out_after { out.new ≡ left (ln_said v) out.old }
 {
-    let r = numbers::log::ln(v);
-    match r {
-        Answer32::Is(x) => {
-            *out = x;
-            0
-        }
-        Answer32::Refused(k) => k,
-    }
+    handed(numbers::log::ln(v), out)
 }
 
 // The square root of an f32; refused by 11.
@@ -31,14 +40,7 @@ pub fn hullathan_sqrt32(v: f32, out: &mut f32) -> u8
     ensures value { result ≡ code (sqrt_said binary32 v) }
     ensures out_after { out.new ≡ left (sqrt_said binary32 v) out.old }
 {
-    let r = numbers::root::sqrt32(v);
-    match r {
-        Answer32::Is(x) => {
-            *out = x;
-            0
-        }
-        Answer32::Refused(k) => k,
-    }
+    handed(numbers::root::sqrt::<f32>(v), out)
 }
 
 // The square root of an f64; refused by 11.
@@ -46,14 +48,7 @@ pub fn hullathan_sqrt64(v: f64, out: &mut f64) -> u8
     ensures value { result ≡ code (sqrt_said binary64 v) }
     ensures out_after { out.new ≡ left (sqrt_said binary64 v) out.old }
 {
-    let r = numbers::root::sqrt64(v);
-    match r {
-        Answer64::Is(x) => {
-            *out = x;
-            0
-        }
-        Answer64::Refused(k) => k,
-    }
+    handed(numbers::root::sqrt::<f64>(v), out)
 }
 
 // The f32 nearest to v: nothing is refused.
@@ -88,7 +83,7 @@ pub fn hullathan_abs32(v: f32, out: &mut f32) -> u8
     ensures value { result ≡ 0 }
     ensures out_after { out.new ≡ abs v }
 {
-    *out = order::abs32(v);
+    *out = v.abs();
     0
 }
 
@@ -97,7 +92,7 @@ pub fn hullathan_abs64(v: f64, out: &mut f64) -> u8
     ensures value { result ≡ 0 }
     ensures out_after { out.new ≡ abs v }
 {
-    *out = order::abs64(v);
+    *out = v.abs();
     0
 }
 
@@ -106,7 +101,7 @@ pub fn hullathan_is_finite32(v: f32, out: &mut bool) -> u8
     ensures value { result ≡ 0 }
     ensures out_after { out.new ≡ finite v }
 {
-    *out = order::is_finite32(v);
+    *out = v.is_finite();
     0
 }
 
@@ -133,7 +128,7 @@ pub fn hullathan_root32(v: f32, out: &mut f32) -> u8
     ensures value { result ≡ 0 }
     ensures out_after { out.new ≡ sqrt_of binary32 v }
 {
-    *out = numbers::inner::root32(v);
+    *out = v.root();
     0
 }
 
@@ -142,7 +137,7 @@ pub fn hullathan_root64(v: f64, out: &mut f64) -> u8
     ensures value { result ≡ 0 }
     ensures out_after { out.new ≡ sqrt_of binary64 v }
 {
-    *out = numbers::inner::root64(v);
+    *out = v.root();
     0
 }
 

@@ -1,19 +1,35 @@
 // The calls of the crate `sender`: a class is its number, 0 to 4, and an answer is a struct of plain numbers.
 ghost use Rattle.std.specs.Prelude.{◌≡◌};
-ghost use Rattle.sender.specs.Model.{view, view_estimate, blank};
-ghost use Rattle.sender.specs.Answers.{of_told, of_length, of_ratio, of_yes, of_report, unless, state_refusal, ratio_said, word_said, pause_said, reported};
-ghost use Rattle.exports.specs.Sender.{of_named, class_of, code, numbered, flagged, reported_as, plain_class, observe_said, mean_at, LeftAt};
-
-use sender::{
-    ClassStats, Dits, Estimate, Length, Millis, Ratio, Report, SenderTiming, TimingClass, Told, Yes,
+ghost use Rattle.sender.specs.Model.{view, view_estimate, blank, class_of};
+ghost use Rattle.sender.specs.Answers.{
+  of_told,
+  of_length,
+  of_ratio,
+  of_yes,
+  of_report,
+  unless,
+  state_refusal,
+  ratio_said,
+  word_said,
+  pause_said,
+  reported,
+};
+ghost use Rattle.exports.specs.Sender.{
+  code,
+  numbered,
+  flagged,
+  reported_as,
+  plain_class,
+  observe_said,
+  mean_at,
+  LeftAt,
 };
 
-// A class by its number, or that no class has it.
-#[derive(Clone, Copy)]
-pub enum Named {
-    Is(TimingClass),
-    Unknown,
-}
+use refusals::Refusal;
+use sender::{ClassEstimate, ClassStats, Dits, Millis, SenderTiming, TimingClass, TimingEstimates};
+
+// The code where no class has the number given.
+const NO_CLASS: u8 = 255;
 
 // The answer of `observe`: the code is 0, the number of the refusal, or 255 where no class has the number given.
 #[repr(C)]
@@ -23,7 +39,8 @@ pub struct SenderObserved {
     pub timing: SenderTiming,
 }
 
-// The answer of a call that tells a number: `has` is false where there is none.
+// The answer of a call that tells a number: `has` is false where there is none. The flag stands beside the number, here
+// and below, since C has no Option.
 #[repr(C)]
 #[derive(Clone, Copy)]
 pub struct SenderNumber {
@@ -49,124 +66,77 @@ pub struct SenderReport {
     pub classes: SenderTiming,
 }
 
-// The class that has a number.
-pub(crate) fn class_named(n: u8) -> Named
-    ensures { of_named result ≡ class_of n }
-{
-    match n {
-        0 => Named::Is(TimingClass::Dot),
-        1 => Named::Is(TimingClass::Dash),
-        2 => Named::Is(TimingClass::ElementGap),
-        3 => Named::Is(TimingClass::CharGap),
-        4 => Named::Is(TimingClass::WordGap),
-        _ => Named::Unknown,
-    }
-}
-
 // The code of an answer.
-pub(crate) fn told(t: Told) -> u8
+pub(crate) fn told(t: Result<(), Refusal>) -> u8
     ensures { result ≡ code (of_told t) }
 {
     match t {
-        Told::Done => 0,
-        Told::Refused(n) => n,
+        Ok(()) => 0,
+        Err(refusal) => u8::from(refusal),
     }
 }
 
-// A length, a ratio, yes or no, as C reads them.
-pub(crate) fn length(l: Length) -> SenderNumber
-    ensures { result ≡ numbered (of_length l) }
-{
-    match l {
-        Length::Is(x) => SenderNumber {
-            code: 0,
-            has: true,
-            value: x.0,
-        },
-        Length::Absent => SenderNumber {
-            code: 0,
-            has: false,
-            value: 0.0,
-        },
-        Length::Refused(n) => SenderNumber {
-            code: n,
-            has: false,
-            value: 0.0,
-        },
-    }
-}
-
-pub(crate) fn ratio(q: Ratio) -> SenderNumber
+// A ratio, a length, yes or no, as C reads them.
+pub(crate) fn ratio(q: Result<Option<f32>, Refusal>) -> SenderNumber
     ensures { result ≡ numbered (of_ratio q) }
 {
     match q {
-        Ratio::Is(x) => SenderNumber {
+        Ok(x) => SenderNumber {
             code: 0,
-            has: true,
-            value: x,
+            has: x.is_some(),
+            value: x.unwrap_or(0.0),
         },
-        Ratio::Absent => SenderNumber {
-            code: 0,
-            has: false,
-            value: 0.0,
-        },
-        Ratio::Refused(n) => SenderNumber {
-            code: n,
+        Err(refusal) => SenderNumber {
+            code: u8::from(refusal),
             has: false,
             value: 0.0,
         },
     }
 }
 
-pub(crate) fn flag(y: Yes) -> SenderFlag
+pub(crate) fn length(l: Result<Option<Dits>, Refusal>) -> SenderNumber
+    ensures { result ≡ numbered (of_length l) }
+{
+    ratio(l.map(|x| x.map(|d| d.0)))
+}
+
+pub(crate) fn flag(y: Result<bool, Refusal>) -> SenderFlag
     ensures { result ≡ flagged (of_yes y) }
 {
     match y {
-        Yes::Is(b) => SenderFlag { code: 0, yes: b },
-        Yes::Refused(n) => SenderFlag {
-            code: n,
+        Ok(yes) => SenderFlag { code: 0, yes },
+        Err(refusal) => SenderFlag {
+            code: u8::from(refusal),
             yes: false,
         },
     }
 }
 
 // One class of a report.
-pub(crate) fn class_stats(e: Estimate) -> ClassStats
+pub(crate) fn class_stats(e: Option<ClassEstimate>) -> ClassStats
     ensures { result ≡ plain_class (view_estimate e) }
 {
     match e {
-        Estimate::Is(c) => {
-            let mean = c.mean_dits;
-            ClassStats {
-                mean,
-                var: c.var_dits2,
-                n: c.n,
-            }
-        }
-        Estimate::Absent => ClassStats {
-            mean: Dits(0.0),
-            var: 0.0,
-            n: 0,
+        Some(c) => ClassStats {
+            mean: c.mean_dits,
+            var: c.var_dits2,
+            n: c.n,
         },
+        None => ClassStats::default(),
     }
 }
 
-pub(crate) fn report(p: Report) -> SenderReport
+pub(crate) fn report(p: Result<TimingEstimates, Refusal>) -> SenderReport
     ensures { result ≡ reported_as (of_report p) }
 {
     match p {
-        Report::Is(e) => {
-            let dot = e.dot;
-            let dash = e.dash;
-            let element_gap = e.element_gap;
-            let char_gap = e.char_gap;
-            let word_gap = e.word_gap;
+        Ok(e) => {
             let classes = SenderTiming {
-                dot: class_stats(dot),
-                dash: class_stats(dash),
-                element_gap: class_stats(element_gap),
-                char_gap: class_stats(char_gap),
-                word_gap: class_stats(word_gap),
+                dot: class_stats(e.dot),
+                dash: class_stats(e.dash),
+                element_gap: class_stats(e.element_gap),
+                char_gap: class_stats(e.char_gap),
+                word_gap: class_stats(e.word_gap),
             };
             SenderReport {
                 code: 0,
@@ -174,8 +144,8 @@ pub(crate) fn report(p: Report) -> SenderReport
                 classes,
             }
         }
-        Report::Refused(n) => SenderReport {
-            code: n,
+        Err(refusal) => SenderReport {
+            code: u8::from(refusal),
             dit_ms: 0.0,
             classes: SenderTiming::new(),
         },
@@ -199,20 +169,18 @@ pub fn hullathan_sender_observe_by_value(
     ensures code_value { result.code ≡ code (observe_said (class_of class) dur_ms dit_ms (view t)) }
     ensures left_at { LeftAt (class_of class) dur_ms dit_ms t result.timing }
 {
-    let k = class_named(class);
-    match k {
-        Named::Is(c) => {
-            let r = t.observe(c, Millis(dur_ms), Millis(dit_ms));
-            let timing = r.timing;
-            let why = r.told;
+    let mut timing = t;
+    match TimingClass::try_from(class) {
+        Ok(named) => {
+            let r = timing.observe(named, Millis(dur_ms), Millis(dit_ms));
             SenderObserved {
-                code: told(why),
+                code: told(r),
                 timing,
             }
         }
-        Named::Unknown => SenderObserved {
-            code: 255,
-            timing: t,
+        Err(_) => SenderObserved {
+            code: NO_CLASS,
+            timing,
         },
     }
 }
@@ -221,11 +189,10 @@ pub fn hullathan_sender_observe_by_value(
 pub fn hullathan_sender_mean_dits(t: SenderTiming, class: u8) -> SenderNumber
     ensures { result ≡ numbered (mean_at (class_of class) (view t)) }
 {
-    let k = class_named(class);
-    match k {
-        Named::Is(c) => length(t.mean_dits(c)),
-        Named::Unknown => SenderNumber {
-            code: 255,
+    match TimingClass::try_from(class) {
+        Ok(c) => length(t.mean_dits(c)),
+        Err(_) => SenderNumber {
+            code: NO_CLASS,
             has: false,
             value: 0.0,
         },

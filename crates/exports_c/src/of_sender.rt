@@ -1,6 +1,6 @@
 // The calls of the crate `sender`: a class is its number, 0 to 4, and an answer is a struct of plain numbers.
 ghost use Rattle.std.specs.Prelude.{◌≡◌};
-ghost use Rattle.sender.specs.Model.{view, blank};
+ghost use Rattle.sender.specs.Model.{view, blank, class_of};
 ghost use Rattle.sender.specs.Answers.{
   unless,
   state_refusal,
@@ -10,7 +10,6 @@ ghost use Rattle.sender.specs.Answers.{
   reported,
 };
 ghost use Rattle.exports.specs.Sender.{
-  class_of,
   code,
   numbered,
   flagged,

@@ -13,8 +13,8 @@ use plain_station::from::station_from;
 use plain_station::to::plain_station;
 use station::Station;
 use station::inner::call::next;
+use station::inner::door::is_chosen;
 use station::inner::pace::{Way, beat, idle, space, way_of};
-use station::inner::refusals::is_chosen;
 
 // A station after an event, and the answer.
 #[derive(Clone, Copy)]

@@ -17,7 +17,7 @@ use plain::to::plain_departures;
 use plain_station::PlainStation;
 use plain_station::from::is_station;
 use station::inner::call::call;
-use station::inner::refusals::{is_full, refuse};
+use station::inner::door::{is_full, refuse};
 use station::inner::sound::is_sound;
 use station::{Answer, Outcome, Station};
 

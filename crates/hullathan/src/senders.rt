@@ -1,18 +1,16 @@
 // The functions of a sender's statistics in the host's own memory, which the crate `hullathan_c` exports to C and Rust.
-// Each copies out of the host's memory, calls a function by value, and stores what that hands back.
 ghost use Rattle.std.specs.Prelude.{◌≡◌};
-ghost use Rattle.sender.specs.Model.{blank};
-ghost use Rattle.plain_sender.specs.Plain.{Observes, class_of, pauses_at, reads};
+ghost use Rattle.sender.specs.Model.{blank, class_of};
+ghost use Rattle.plain_sender.specs.Plain.{Observes, pauses_at, reads};
 
-use plain_sender::{SenderReading, observed, pause, reading};
+use plain_sender::{SenderReading, observe, pause, reading};
 use sender::SenderTiming;
 
 // Statistics with no observations, whatever stood in their place.
 pub fn hullathan_sender_start(t: &mut SenderTiming)
     ensures { t.new ≡ blank }
 {
-    let k = SenderTiming::new();
-    *t = k;
+    *t = SenderTiming::new();
 }
 
 // One duration of a class, by its number, measured against a dit.
@@ -24,9 +22,7 @@ pub fn hullathan_sender_observe(
 ) -> u8
     ensures { Observes (class_of timing_class) dur_ms dit_ms t.old result t.new }
 {
-    let k = observed(*t, timing_class, dur_ms, dit_ms);
-    *t = k.timing;
-    k.code
+    observe(t, timing_class, dur_ms, dit_ms)
 }
 
 // What a display shows of a sender.

@@ -1,7 +1,7 @@
 // The functions of a sender's statistics, in the host's own memory.
 ghost use Rattle.std.specs.Prelude.{◌≡◌};
-ghost use Rattle.sender.specs.Model.{blank};
-ghost use Rattle.plain_sender.specs.Plain.{Observes, class_of, pauses_at, reads};
+ghost use Rattle.sender.specs.Model.{blank, class_of};
+ghost use Rattle.plain_sender.specs.Plain.{Observes, pauses_at, reads};
 
 use plain_sender::SenderReading;
 use sender::SenderTiming;
