@@ -79,6 +79,14 @@ extern "C" fn nan_mark(station: &mut Station) {
     });
 }
 
+/// A mark that is infinite.
+extern "C" fn infinite_mark(station: &mut Station) {
+    let _ = station.call(Event::Mark {
+        ms: f32::INFINITY,
+        live: true,
+    });
+}
+
 extern "C" fn keyed_guarded(station: &mut Station) {
     let _default = Guard::set();
     keyed(station);
@@ -182,6 +190,7 @@ fn in_a_child() {
         "keyed" => keyed,
         "keyed guarded" => keyed_guarded,
         "nan" => nan_mark,
+        "infinite" => infinite_mark,
         _ => nan_mark_guarded,
     };
     within(mxcsr, watch, &mut fresh());
@@ -206,12 +215,14 @@ fn signal(mxcsr: u32, watch: &str) -> Option<i32> {
     status.signal()
 }
 
-/// Exceptions that are not masked: a signal in an ordinary watch and at a NaN, and none under a guard.
+/// Exceptions that are not masked: a signal in an ordinary watch and at an infinity, and none under a guard; a NaN is
+/// found without one.
 #[test]
 fn unmasked() {
     assert_eq!(signal(DEFAULT, "keyed"), None);
     assert_eq!(signal(NO_INEXACT, "keyed"), Some(SIGFPE));
-    assert_eq!(signal(NONE_MASKED, "nan"), Some(SIGFPE));
+    assert_eq!(signal(NONE_MASKED, "infinite"), Some(SIGFPE));
+    assert_eq!(signal(NONE_MASKED, "nan"), None);
     for mxcsr in [NO_INEXACT, NONE_MASKED] {
         assert_eq!(signal(mxcsr, "keyed guarded"), None);
         assert_eq!(signal(mxcsr, "nan guarded"), None);
