@@ -31,7 +31,9 @@ positive_at (inf true) = refl
 positive_at (inf false) = refl
 positive_at (fin true m e) = refl
 positive_at (fin false zero e) = ap (λ (b : Bool). b && true) (le-ltb (0 * down e) (0 * up e * 1) (omega arith))
-positive_at (fin false (suc m) e) = ap (λ (b : Bool). b && true) (lt-ltb (0 * down e) (suc m * up e * 1) (more m e)) ∙ sym (lt-ltb 0 (suc m) (zero-lt-suc m))
+positive_at (fin false (suc m) e) =
+    ap (λ (b : Bool). b && true) (lt-ltb (0 * down e) (suc m * up e * 1) (more m e))
+    ∙ sym (lt-ltb 0 (suc m) (zero-lt-suc m))
 
 pub positive_law : (f : Format) (v : Float) → (lt (of_bits f 0) v && float_is_finite v) ≡ positive v
 positive_law f v = ap (λ (x : Float). lt x v && float_is_finite v) (zero_is f) ∙ positive_at v
@@ -44,9 +46,12 @@ unfolding le lt eq
 has_root_at nan = refl
 has_root_at (inf true) = refl
 has_root_at (inf false) = refl
-has_root_at (fin true zero e) = rw (eq-eqb (0 * down e) (0 * up e * 1) (omega arith), eq-eqb (0 * down e) 0 (omega arith))
-has_root_at (fin false zero e) = rw (le-ltb (0 * down e) (0 * up e * 1) (omega arith), eq-eqb (0 * down e) (0 * up e * 1) (omega arith))
-has_root_at (fin true (suc m) e) = rw (ne_eqb (0 * down e) (suc m * up e * 1) (differs (0 * down e) (suc m * up e * 1) (more m e)))
+has_root_at (fin true zero e) =
+    rw (eq-eqb (0 * down e) (0 * up e * 1) (omega arith), eq-eqb (0 * down e) 0 (omega arith))
+has_root_at (fin false zero e) =
+    rw (le-ltb (0 * down e) (0 * up e * 1) (omega arith), eq-eqb (0 * down e) (0 * up e * 1) (omega arith))
+has_root_at (fin true (suc m) e) =
+    rw (ne_eqb (0 * down e) (suc m * up e * 1) (differs (0 * down e) (suc m * up e * 1) (more m e)))
 has_root_at (fin false (suc m) e) = rw (lt-ltb (0 * down e) (suc m * up e * 1) (more m e))
 
 infinity_is : (f : Format) → of_bits f (ones f * hid f) ≡ inf false
@@ -54,7 +59,8 @@ unfolding of_bits
 infinity_is binary32 = refl
 infinity_is binary64 = refl
 
-pub has_root_law : (f : Format) (v : Float) → (le (of_bits f 0) v && lt v (of_bits f (ones f * hid f))) ≡ not (rootless v)
+pub has_root_law : (f : Format) (v : Float)
+    → (le (of_bits f 0) v && lt v (of_bits f (ones f * hid f))) ≡ not (rootless v)
 has_root_law f v = rw (zero_is, infinity_is) (has_root_at v)
 
 -- ---- what a call says

@@ -1,10 +1,10 @@
 -- Where the logarithm of an f32 that is finite and above zero begins, from its parts sig * 2 ^ j / 2 ^ 149 and the
 -- leading zeros of sig. Assumes nothing.
-use Rattle.std.proofs.Common.{◌≡◌, ℕ, suc, ◌+◌, ◌-◌, ◌*◌, ◌%◌, ◌^◌, ◌<◌, ◌≤◌, Bool, true, false, cond, ℤ, pos, negsuc, sym, refl, ap, ◌∙◌, subst, le_trans, le_of_eq, lt_of_lt_of_le, le_of_suc-le-suc, lt_irrefl, mul-le-mul_right, mod-eq_of_lt, zero-lt-suc, mul_assoc, mul-pos, lt_of_not-le, mul-one, mul_right_comm, div-one, arith, lit<, lit≤, pow_pos, pow_mono, pow-add, shl_lt, le-leb}
+use Rattle.std.proofs.Common.{◌≡◌, ℕ, suc, ◌+◌, ◌-◌, ◌*◌, ◌%◌, ◌^◌, ◌<◌, ◌≤◌, Bool, false, cond, ℤ, pos, negsuc, sym, refl, ap, ◌∙◌, subst, le_trans, le_of_eq, lt_of_lt_of_le, le_of_suc-le-suc, lt_irrefl, mul-le-mul_right, mod-eq_of_lt, zero-lt-suc, mul_assoc, mul-pos, lt_of_not-le, mul-one, mul_right_comm, div-one, arith, lit<, lit≤, pow_pos, pow_mono, pow-add, shl_lt, le-leb}
 use native.Mathlib.Nat.{eq_of_mul-eq-mul_right}
 use native.Mathlib.Decide.{dec_le}
 use lib.Count.{count_leading_zeros, leading_top}
-use lib.Ieee.{Float, fin, binary32, up, down, minus, size, round}
+use lib.Ieee.{Float, fin, binary32, up, down, minus, size}
 use lib.Ieee.Digits.{size-lt, size_reaches}
 use lib.Ieee.Fits.{up_pos}
 use lib.Ieee.Exact.{HasValue}
@@ -202,16 +202,3 @@ module _ (v : Float) (q : Plain v) (p : Parts) (a : Parted binary32 v p) where
 
       few : (j i : ℕ) → j < 254 → i < 24 → j + i < 277
       few j i b c = omega arith
-
--- ---- the logarithm from what the code has for the larger part
-pub scaled_over : (h : ℕ) (r : Float) → 2499805184 ≤ h
-    → r ≡ round binary32 false ((h - 2499805184) * 2977044472) (2 ^ 56) → r ≡ scaled (minus h 2499805184)
-scaled_over h r k e = e ∙ ap scaled (sym (minus_yes h 2499805184 k))
-
-pub scaled_under : (h : ℕ) (r : Float) → h < 2499805184
-    → r ≡ round binary32 true ((2499805184 - h) * 2977044472) (2 ^ 56) → r ≡ scaled (minus h 2499805184)
-scaled_under h r k e = e ∙ ap (λ (x : ℕ). round binary32 true (x * 2977044472) (2 ^ 56)) (step h k)
-    ∙ ap scaled (sym (minus_no h 2499805184 k))
-  where
-    step : (x : ℕ) → x < 2499805184 → 2499805184 - x ≡ suc (2499805184 - suc x)
-    step x h = omega arith

@@ -1,7 +1,7 @@
 -- One digit of the logarithm, and the turns of the loops over 24 of them. Assumes nothing.
-use Rattle.std.proofs.Common.{◌≡◌, ℕ, suc, ◌+◌, ◌-◌, ◌*◌, ◌/◌, ◌^◌, ◌<◌, ◌≤◌, Bool, true, false, cond, leb, sym, refl, ap, ◌∙◌, subst, le_trans, lt_of_lt_of_le, lt_of_le_of_lt, le_of_lt, mul-le-mul_right, div-lt_iff_lt-mul, mul-le-mul_left, mul-lt-mul_of_pos_right, le-div_iff_mul-le, div-one, add-one, arith, lit≤, pow_pos, pow_mono, leb-false, leb-true}
+use Rattle.std.proofs.Common.{◌≡◌, ℕ, suc, ◌+◌, ◌-◌, ◌*◌, ◌/◌, ◌^◌, ◌<◌, ◌≤◌, Bool, true, false, cond, leb, sym, refl, ap, ◌∙◌, subst, le_trans, lt_of_lt_of_le, lt_of_le_of_lt, le_of_lt, mul-le-mul_right, div-lt_iff_lt-mul, mul-le-mul_left, mul-lt-mul_of_pos_right, le-div_iff_mul-le, add-one, arith, lit≤, pow_pos, pow_mono, leb-false, leb-true}
 use native.Mathlib.Nat.{pow-succ'}
-use Rattle.numbers.specs.Log.{squared, digit, next, digits}
+use Rattle.numbers.specs.Log.{squared, full, digit, next, digits}
 
 module _ (y : ℕ) (lo : 2 ^ 31 ≤ y) (hi : y < 2 ^ 32) where
   pub square_fits : y * y < 2 ^ 64
@@ -13,22 +13,6 @@ module _ (y : ℕ) (lo : 2 ^ 31 ≤ y) (hi : y < 2 ^ 32) where
   squared_lt : squared y < 2 ^ 33
   squared_lt = (div-lt_iff_lt-mul (pow_pos 31)).1 square_fits
 
--- the bit, as the code has it: what stands above 32 places
-module _ (s : ℕ) (L : s < 2 ^ 33) where
-  bit_le : s / 2 ^ 32 ≤ 1
-  bit_le = omega arith
-
-  bit_one : 2 ^ 32 ≤ s → s / 2 ^ 32 ≡ 1
-  bit_one h = omega arith
-
-  bit_zero : s < 2 ^ 32 → s / 2 ^ 32 ≡ 0
-  bit_zero h = omega arith
-
-  -- by whether s is at least 2 ^ 32, the bit and what is left of s
-  bit_is : (b : Bool) → leb (2 ^ 32) s ≡ b → (s / 2 ^ 32 ≡ cond b 1 0) × (s / 2 ^ (s / 2 ^ 32) ≡ cond b (s / 2) s)
-  bit_is true e = let o = bit_one (leb-true (2 ^ 32) s e) in (o, ap (λ (x : ℕ). s / 2 ^ x) o)
-  bit_is false e = let z = bit_zero (leb-false (2 ^ 32) s e) in (z, ap (λ (x : ℕ). s / 2 ^ x) z ∙ div-one s)
-
 one_less : (i : ℕ) → i < 24 → 24 - i ≡ suc (24 - (i + 1))
 one_less i h = omega arith
 
@@ -36,15 +20,17 @@ step : (d y t : ℕ) → digits (suc d) y t ≡ digits d (next y) (2 * t + digit
 unfolding digits
 step d y t = refl
 
--- ---- one digit: what the code has for it, and the next y
+digit_le : (y : ℕ) → digit y ≤ 1
+digit_le y = go (full y)
+  where
+    go : (b : Bool) → cond b 1 0 ≤ 1
+    go true = lit≤ tt
+    go false = lit≤ tt
+
+-- ---- the next y keeps its leading one at bit 31
 module _ (y : ℕ) (lo : 2 ^ 31 ≤ y) (hi : y < 2 ^ 32) where
-  pub one_is : (squared y / 2 ^ 32 ≡ digit y) × (squared y / 2 ^ (squared y / 2 ^ 32) ≡ next y)
-  one_is = bit_is (squared y) (squared_lt y lo hi) (leb (2 ^ 32) (squared y)) refl
-
-  pub one_le : squared y / 2 ^ 32 ≤ 1
-  one_le = bit_le (squared y) (squared_lt y lo hi)
-
-  in_word : (b : Bool) → leb (2 ^ 32) (squared y) ≡ b → (2 ^ 31 ≤ cond b (squared y / 2) (squared y)) × (cond b (squared y / 2) (squared y) < 2 ^ 32)
+  in_word : (b : Bool) → leb (2 ^ 32) (squared y) ≡ b
+      → (2 ^ 31 ≤ cond b (squared y / 2) (squared y)) × (cond b (squared y / 2) (squared y) < 2 ^ 32)
   in_word true e = go (squared y) (leb-true (2 ^ 32) (squared y) e) (squared_lt y lo hi)
     where
       go : (s : ℕ) → 2 ^ 32 ≤ s → s < 2 ^ 33 → (2 ^ 31 ≤ s / 2) × (s / 2 < 2 ^ 32)
@@ -53,9 +39,6 @@ module _ (y : ℕ) (lo : 2 ^ 31 ≤ y) (hi : y < 2 ^ 32) where
 
   next_in : (2 ^ 31 ≤ next y) × (next y < 2 ^ 32)
   next_in = in_word (leb (2 ^ 32) (squared y)) refl
-
-  digit_le : digit y ≤ 1
-  digit_le = subst (λ (x : ℕ). x ≤ 1) one_is.0 one_le
 
 none_left : (i y t : ℕ) → i ≤ 24 → 24 ≤ i → digits (24 - i) y t ≡ t
 unfolding digits
@@ -66,12 +49,14 @@ none_left i y t h l = ap (λ (d : ℕ). digits d y t) (go i h l)
 
 -- one more place
 pub more : (t d i : ℕ) → d ≤ 1 → t < 2 ^ i → 2 * t + d < 2 ^ (i + 1)
-more t d i k h = subst (λ (x : ℕ). 2 * t + d < x) (sym (ap (λ (x : ℕ). 2 ^ x) (add-one i) ∙ pow-succ' 2 i)) (go (2 ^ i) h)
+more t d i k h =
+    subst (λ (x : ℕ). 2 * t + d < x) (sym (ap (λ (x : ℕ). 2 ^ x) (add-one i) ∙ pow-succ' 2 i)) (go (2 ^ i) h)
   where
     go : (p : ℕ) → t < p → 2 * t + d < 2 * p
     go p l = omega arith
 
--- ---- a loop over the digits of w: y keeps its leading one at bit 31, t has i digits, and the digits that are left, after t, make the answer
+-- ---- a loop over the digits of w: y keeps its leading one at bit 31, t has i digits, and the digits that are left,
+-- after t, make the answer
 pub record Good (w y t i : ℕ) : Type 0 where
   pub turns : i ≤ 24
   pub low : 2 ^ 31 ≤ y
@@ -95,7 +80,7 @@ again {w} {y} {t} {i} {y'} {t'} g h a b =
       low = subst (λ (x : ℕ). 2 ^ 31 ≤ x) (sym a) k.0;
       high = subst (λ (x : ℕ). x < 2 ^ 32) (sym a) k.1;
       short = subst (λ (x : ℕ). x < 2 ^ (i + 1)) (sym b)
-          (more t (digit y) i (digit_le y g.low g.high) g.short);
+          (more t (digit y) i (digit_le y) g.short);
       rest =
           ap (λ (x : ℕ). digits (24 - (i + 1)) x t') a
           ∙ ap (λ (x : ℕ). digits (24 - (i + 1)) (next y) x) b
@@ -106,6 +91,3 @@ again {w} {y} {t} {i} {y'} {t'} g h a b =
 -- after 24 of them
 pub ended : {w y t i : ℕ} → Good w y t i → 24 ≤ i → (t ≡ digits 24 w 0) × (t < 2 ^ 24)
 ended {w} {y} {t} {i} g h = (sym (none_left i y t g.turns h) ∙ g.rest, fits g)
-
-pub few : (d : ℕ) → d ≤ 1 → d < 64
-few d h = omega arith

@@ -526,6 +526,43 @@ pub rooted_fits : (f : Format) (m : ℕ) (e : ℤ) → T (fits f (root_of f m e)
 unfolding root_of
 rooted_fits f m e = round-fits f false (2 * floor_root (square_units f m e) + cond (eqb (floor_root (square_units f m e) * floor_root (square_units f m e)) (square_units f m e)) 0 1) (2 ^ (low f + 1))
 
+-- ---- the root in units, for laws on whole numbers
+module _ (f : Format) (m : ℕ) (e : ℤ) (F : T (fits f (fin false (suc m) e))) where
+  pub root_value : HasValue (root_of f (suc m) e) false (units_of f (root_of f (suc m) e)) (2 ^ low f)
+  root_value = let H = held_of f false m e F in subst (λ (x : ℕ). HasValue (root_of f (suc m) e) false x (2 ^ low f)) (sym (a_is f (suc m) e H)) (value f (suc m) e H)
+
+  finite_root : (x : Float) (a : ℕ) → HasValue x false a (2 ^ low f) → T (finite x)
+  finite_root nan a h = absurd h
+  finite_root (inf s) a h = absurd h
+  finite_root (fin s n d) a h = tt
+
+  pub root_short : Short f (units_of f (root_of f (suc m) e))
+  root_short = short f (root_of f (suc m) e) (rooted_fits f (suc m) e) (finite_root (root_of f (suc m) e) _ root_value)
+
+  pub root_best : (b : ℕ) → Short f b → Nearer (square_units f (suc m) e) (units_of f (root_of f (suc m) e)) b
+  root_best b s = let H = held_of f false m e F in subst (λ (x : ℕ). Nearer (square_units f (suc m) e) x b) (sym (a_is f (suc m) e H)) (best f (suc m) e H b s)
+
+  -- the square is a whole number of units
+  pub units_whole : square_units f (suc m) e * down e ≡ suc m * up e * 2 ^ (2 * low f)
+  units_whole =
+      let H = held_of f false m e F in
+      let g : fall e ≤ 2 * low f = twice (fall e) (low f) (pow_le_back (fall e) (low f) (subst (λ (x : ℕ). x ≤ 2 ^ low f) (down_is e) H.2)) in
+      ap (λ (x : ℕ). x * down e) (place (2 * low f) (suc m) e g) ∙ placed g
+    where
+      twice : (x y : ℕ) → x ≤ y → x ≤ 2 * y
+      twice x y h = omega arith
+
+      back : (x y z : ℕ) → z ≤ y → x + y - z + z ≡ x + y
+      back x y z h = omega arith
+
+      placed : fall e ≤ 2 * low f → suc m * 2 ^ (rise e + 2 * low f - fall e) * down e ≡ suc m * up e * 2 ^ (2 * low f)
+      placed g =
+          ap (λ (x : ℕ). suc m * 2 ^ (rise e + 2 * low f - fall e) * x) (down_is e)
+          ∙ mul_assoc (suc m) (2 ^ (rise e + 2 * low f - fall e)) (2 ^ fall e)
+          ∙ ap (λ (x : ℕ). suc m * x) (sym (pow-add 2 (rise e + 2 * low f - fall e) (fall e)) ∙ ap (λ (x : ℕ). 2 ^ x) (back (rise e) (2 * low f) (fall e) g) ∙ pow-add 2 (rise e) (2 * low f))
+          ∙ sym (mul_assoc (suc m) (2 ^ rise e) (2 ^ (2 * low f)))
+          ∙ ap (λ (x : ℕ). suc m * x * 2 ^ (2 * low f)) (sym (up_is e))
+
 -- ---- the theorem
 pub root_is_nearest : (f : Format) (m : ℕ) (e : ℤ) → T (fits f (fin false (suc m) e)) → NearestRoot f (suc m) e (root_of f (suc m) e)
 root_is_nearest f m e h =

@@ -1,5 +1,5 @@
--- The library's root of a value that a format holds is `sqrt_of`. Both cut the root at a scale finer than the format's, and round what they have;
--- the library's scale, 2 ^ -2271, is the finer one. Assumes nothing.
+-- The library's root of a value that a format holds is `sqrt_of`. Both cut the root at a scale finer than the format's,
+-- and round what they have; the library's scale, 2 ^ -2271, is the finer one. Assumes nothing.
 use Rattle.std.proofs.Common.{◌≡◌, ℕ, zero, suc, ◌+◌, ◌-◌, ◌*◌, ◌/◌, ◌%◌, ◌^◌, ◌<◌, ◌≤◌, Bool, true, false, cond, T, eqb, ◌⊎◌, ℤ, sym, refl, ap, ◌∙◌, subst, inl, inr, le_trans, le_of_eq, lt_of_lt_of_le, le_of_suc-le-suc, lt_of_le_of_lt, mul-le-mul_right, mul-lt-mul_of_pos_right, mul-pos, mul_assoc, add-mul, eq-zero-or-pos, le_antisymm, pow_pos, pow_mono, pow-add, arith, lit≤, eq-eqb, ne_eqb, eqb-true, add-zero, mod-lt, div-add-mod', lt_of_not-le, not-le_of_lt}
 use Rattle.std.proofs.lemmas.Nat.{div-mul-add}
 use native.Mathlib.Nat.{le_dest, pow-succ'}
@@ -17,7 +17,7 @@ use Rattle.numbers.proofs.FloorRoot.{floor_root_law, square_lt_back}
 use Rattle.numbers.proofs.NearestRoot.{Held, held_of, place, fall_le, N-is, R-ge}
 use Rattle.numbers.proofs.Plain.{zero_form}
 
--- ---- two numbers strictly between the same neighbouring multiples of g, of which the lower is Q times that, are equally far from what is twice c times g
+-- ---- two numbers that lie strictly between Q and Q + 1 times g are nearest to the same multiple of 2 * c * g
 module _ (Q g c : ℕ) (C : 0 < c) where
   abbrev q : ℕ
   q = Q / (2 * c)
@@ -38,13 +38,17 @@ module _ (Q g c : ℕ) (C : 0 < c) where
       go x y d = omega arith
 
   lower : o < c → (a : ℕ) → a < g → closest (Q * g + a) (2 * c * g) ≡ q
-  lower h a l = ap (λ (x : ℕ). closest x (2 * c * g)) (apart a) ∙ closest_down q (2 * c * g) (o * g + a) (go o (mul-le-mul_right g h))
+  lower h a l =
+      ap (λ (x : ℕ). closest x (2 * c * g)) (apart a)
+      ∙ closest_down q (2 * c * g) (o * g + a) (go o (mul-le-mul_right g h))
     where
       go : (y : ℕ) → suc y * g ≤ c * g → (y * g + a) * 2 < 2 * c * g
       go y k = omega arith
 
   upper : c ≤ o → (a : ℕ) → 0 < a → a < g → closest (Q * g + a) (2 * c * g) ≡ q + 1
-  upper h a p l = ap (λ (x : ℕ). closest x (2 * c * g)) (apart a) ∙ closest_up q (2 * c * g) (o * g + a) (go o (mul-le-mul_right g h)) (top o (mul-le-mul_right g o_lt))
+  upper h a p l =
+      ap (λ (x : ℕ). closest x (2 * c * g)) (apart a)
+      ∙ closest_up q (2 * c * g) (o * g + a) (go o (mul-le-mul_right g h)) (top o (mul-le-mul_right g o_lt))
     where
       go : (y : ℕ) → c * g ≤ y * g → 2 * c * g < (y * g + a) * 2
       go y k = omega arith
@@ -52,7 +56,8 @@ module _ (Q g c : ℕ) (C : 0 < c) where
       top : (y : ℕ) → suc y * g ≤ 2 * c * g → y * g + a < 2 * c * g
       top y k = omega arith
 
-  pub closest_between : (a b : ℕ) → 0 < a → a < g → 0 < b → b < g → closest (Q * g + a) (2 * c * g) ≡ closest (Q * g + b) (2 * c * g)
+  closest_between : (a b : ℕ) → 0 < a → a < g → 0 < b → b < g
+      → closest (Q * g + a) (2 * c * g) ≡ closest (Q * g + b) (2 * c * g)
   closest_between a b p l p' l' = go (dec_le (suc o) c)
     where
       go : Dec (suc o ≤ c) → closest (Q * g + a) (2 * c * g) ≡ closest (Q * g + b) (2 * c * g)
@@ -62,8 +67,8 @@ module _ (Q g c : ℕ) (C : 0 < c) where
 size_gt : (n j : ℕ) → 2 ^ j ≤ n → j < size n
 size_gt n j h = lt_of_not-le (λ (g : size n ≤ j). not-le_of_lt (lt_of_lt_of_le (size-lt n) (pow_mono g)) h)
 
--- ---- two numbers that lie strictly between the same neighbouring multiples of g = 2 ^ suc i round alike as so many units
--- of 2 ^ -(low + suc i), where the lower of these is Q times g and Q has more digits than the format keeps
+-- ---- so they round alike for g = 2 ^ suc i, as so many units of 2 ^ -(low + suc i), where Q has more digits than the
+-- format keeps
 module _ (f : Format) (s : Bool) (Q i : ℕ) (H : 2 ^ prec f ≤ Q) where
   abbrev g : ℕ
   g = 2 ^ suc i
@@ -90,11 +95,13 @@ module _ (f : Format) (s : Bool) (Q i : ℕ) (H : 2 ^ prec f ≤ Q) where
     rounds : round f s (Q * g + a) den ≡ units f s (closest (Q * g + a) (2 * 2 ^ (k - 1) * g)) k
     rounds =
         round_is f s (Q * g + a) den
-        ∙ ap (λ (x : ℕ). units f s (closest ((Q * g + a) * 2 ^ low f) (den * 2 ^ (size x - prec f))) (size x - prec f)) whole
+        ∙ ap (λ (x : ℕ). let j = size x - prec f in units f s (closest ((Q * g + a) * 2 ^ low f) (den * 2 ^ j)) j) whole
         ∙ ap (λ (x : ℕ). units f s x k)
-        (closest_same ((Q * g + a) * 2 ^ low f) (den * 2 ^ k) (Q * g + a) (2 * 2 ^ (k - 1) * g) (mul-pos (pow_pos (low f + suc i)) (pow_pos k))
+        (closest_same ((Q * g + a) * 2 ^ low f) (den * 2 ^ k) (Q * g + a) (2 * 2 ^ (k - 1) * g)
+        (mul-pos (pow_pos (low f + suc i)) (pow_pos k))
         (mul-pos (mul-pos (lit≤ tt) (pow_pos (k - 1))) (pow_pos (suc i)))
-        (unit (2 ^ low f) g (2 ^ (k - 1)) den (2 ^ k) (pow-add 2 (low f) (suc i)) (ap (λ (x : ℕ). 2 ^ x) (one_less k k_pos) ∙ pow-succ' 2 (k - 1))))
+        (unit (2 ^ low f) g (2 ^ (k - 1)) den (2 ^ k) (pow-add 2 (low f) (suc i))
+        (ap (λ (x : ℕ). 2 ^ x) (one_less k k_pos) ∙ pow-succ' 2 (k - 1))))
       where
         one_less : (x : ℕ) → 0 < x → x ≡ suc (x - 1)
         one_less x h = omega arith
@@ -106,17 +113,23 @@ module _ (f : Format) (s : Bool) (Q i : ℕ) (H : 2 ^ prec f ≤ Q) where
             go x = omega arith
 
   round_between : (a b : ℕ) → 0 < a → a < g → 0 < b → b < g → round f s (Q * g + a) den ≡ round f s (Q * g + b) den
-  round_between a b P A P' B = rounds a A ∙ ap (λ (x : ℕ). units f s x k) (closest_between Q g (2 ^ (k - 1)) (pow_pos (k - 1)) a b P A P' B) ∙ sym (rounds b B)
+  round_between a b P A P' B =
+      rounds a A
+      ∙ ap (λ (x : ℕ). units f s x k) (closest_between Q g (2 ^ (k - 1)) (pow_pos (k - 1)) a b P A P' B)
+      ∙ sym (rounds b B)
 
 -- ---- n is r0 * r0 + rest at the coarse scale, and that times h * h at the fine one, where the root's whole part is r
-module _ (r0 rest h n r : ℕ) (P : 0 < h) (R : rest ≤ 2 * r0) (N : n ≡ (r0 * r0 + rest) * (h * h)) (FR : (r * r ≤ n) × (n < suc r * suc r)) where
+module _ (r0 rest h n r : ℕ) (P : 0 < h) (R : rest ≤ 2 * r0) (N : n ≡ (r0 * r0 + rest) * (h * h))
+    (FR : (r * r ≤ n) × (n < suc r * suc r)) where
   squares : (x y : ℕ) → x * y * (x * y) ≡ x * x * (y * y)
   squares x y = omega arith
 
   root_ge : r0 * h ≤ r
   root_ge =
       le_of_suc-le-suc (square_lt_back (r0 * h) (suc r)
-      (lt_of_le_of_lt (le_trans (le_of_eq (squares r0 h)) (le_trans (mul-le-mul_right (h * h) (more (r0 * r0))) (le_of_eq (sym N)))) FR.1))
+      (lt_of_le_of_lt
+      (le_trans (le_of_eq (squares r0 h)) (le_trans (mul-le-mul_right (h * h) (more (r0 * r0))) (le_of_eq (sym N))))
+      FR.1))
     where
       more : (x : ℕ) → x ≤ x + rest
       more x = omega arith
@@ -124,7 +137,8 @@ module _ (r0 rest h n r : ℕ) (P : 0 < h) (R : rest ≤ 2 * r0) (N : n ≡ (r0 
   root_lt : r < suc r0 * h
   root_lt =
       square_lt_back r (suc r0 * h)
-      (lt_of_le_of_lt FR.0 (lt_of_le_of_lt (le_of_eq N) (lt_of_lt_of_le (mul-lt-mul_of_pos_right below (mul-pos P P)) (le_of_eq (sym (squares (suc r0) h))))))
+      (lt_of_le_of_lt FR.0 (lt_of_le_of_lt (le_of_eq N)
+      (lt_of_lt_of_le (mul-lt-mul_of_pos_right below (mul-pos P P)) (le_of_eq (sym (squares (suc r0) h))))))
     where
       below : r0 * r0 + rest < suc r0 * suc r0
       below = omega arith
@@ -139,10 +153,16 @@ module _ (r0 rest h n r : ℕ) (P : 0 < h) (R : rest ≤ 2 * r0) (N : n ≡ (r0 
       go b e l = omega arith
 
   exact : rest ≡ 0 → r ≡ r0 * h
-  exact e = le_antisymm (le_of_suc-le-suc (square_lt_back r (suc (r0 * h)) (lt_of_le_of_lt FR.0 (lt_of_le_of_lt (le_of_eq is) (larger (r0 * h)))))) root_ge
+  exact e =
+      le_antisymm
+      (le_of_suc-le-suc (square_lt_back r (suc (r0 * h))
+      (lt_of_le_of_lt FR.0 (lt_of_le_of_lt (le_of_eq is) (larger (r0 * h)))))) root_ge
     where
       is : n ≡ r0 * h * (r0 * h)
-      is = N ∙ ap (λ (x : ℕ). (r0 * r0 + x) * (h * h)) e ∙ ap (λ (x : ℕ). x * (h * h)) (add-zero (r0 * r0)) ∙ sym (squares r0 h)
+      is =
+          N
+          ∙ ap (λ (x : ℕ). (r0 * r0 + x) * (h * h)) e
+          ∙ ap (λ (x : ℕ). x * (h * h)) (add-zero (r0 * r0)) ∙ sym (squares r0 h)
 
       larger : (x : ℕ) → x * x < suc x * suc x
       larger x = omega arith
@@ -204,9 +224,11 @@ module _ (r0 rest h n r : ℕ) (P : 0 < h) (R : rest ≤ 2 * r0) (N : n ≡ (r0 
     -- the coarse number at the fine scale
     coarser : (t : ℕ) → round f false ((2 * r0 + t) * h) fine ≡ round f false (2 * r0 + t) (2 ^ (low f + 1))
     coarser t =
-        round_same f false ((2 * r0 + t) * h) fine (2 * r0 + t) (2 ^ (low f + 1)) (pow_pos (low f + suc i)) (pow_pos (low f + 1))
+        round_same f false ((2 * r0 + t) * h) fine (2 * r0 + t) (2 ^ (low f + 1))
+        (pow_pos (low f + suc i)) (pow_pos (low f + 1))
         (mul_assoc (2 * r0 + t) h (2 ^ (low f + 1))
-        ∙ ap (λ (x : ℕ). (2 * r0 + t) * x) (ap (λ (x : ℕ). x * 2 ^ (low f + 1)) I ∙ sym (pow-add 2 i (low f + 1)) ∙ ap (λ (x : ℕ). 2 ^ x) (go (low f))))
+        ∙ ap (λ (x : ℕ). (2 * r0 + t) * x)
+        (ap (λ (x : ℕ). x * 2 ^ (low f + 1)) I ∙ sym (pow-add 2 i (low f + 1)) ∙ ap (λ (x : ℕ). 2 ^ x) (go (low f))))
       where
         go : (l : ℕ) → i + (l + 1) ≡ l + suc i
         go l = omega arith
@@ -229,19 +251,23 @@ module _ (r0 rest h n r : ℕ) (P : 0 < h) (R : rest ≤ 2 * r0) (N : n ≡ (r0 
         some : (x : ℕ) → 0 < x → x ≡ 0 → ⊥
         some x a b = omega arith
 
-        go : (rest ≡ 0) ⊎ (0 < rest) → round f false (2 * r + sticky) fine ≡ round f false (2 * r0 + cond (eqb rest 0) 0 1) (2 ^ (low f + 1))
+        go : (rest ≡ 0) ⊎ (0 < rest)
+            → round f false (2 * r + sticky) fine ≡ round f false (2 * r0 + cond (eqb rest 0) 0 1) (2 ^ (low f + 1))
         go (inl e) =
             ap (λ (b : Bool). round f false (2 * r + cond b 0 1) fine) (eq-eqb (r * r) n (exact_square e))
             ∙ ap (λ (x : ℕ). round f false x fine) (whole r (exact e))
             ∙ coarser 0
             ∙ ap (λ (b : Bool). round f false (2 * r0 + cond b 0 1) (2 ^ (low f + 1))) (sym (eq-eqb rest 0 e))
         go (inr p) =
-            ap (λ (x : ℕ). round f false x fine) (left r beyond.0 sticky beyond.1 ∙ ap (λ (x : ℕ). r0 * x + (2 * beyond.0 + sticky)) two_h)
-            ∙ round_between f false r0 i H (2 * beyond.0 + sticky) h (over_pos p) (subst (λ (x : ℕ). 2 * beyond.0 + sticky < x) two_h over_lt) P (subst (λ (x : ℕ). h < x) two_h half)
+            ap (λ (x : ℕ). round f false x fine)
+            (left r beyond.0 sticky beyond.1 ∙ ap (λ (x : ℕ). r0 * x + (2 * beyond.0 + sticky)) two_h)
+            ∙ round_between f false r0 i H (2 * beyond.0 + sticky) h (over_pos p)
+            (subst (λ (x : ℕ). 2 * beyond.0 + sticky < x) two_h over_lt) P (subst (λ (x : ℕ). h < x) two_h half)
             ∙ ap (λ (x : ℕ). round f false (r0 * x + h) fine) (sym two_h)
             ∙ ap (λ (x : ℕ). round f false x fine) right
             ∙ coarser 1
-            ∙ ap (λ (b : Bool). round f false (2 * r0 + cond b 0 1) (2 ^ (low f + 1))) (sym (ne_eqb rest 0 (some rest p)))
+            ∙ ap (λ (b : Bool). round f false (2 * r0 + cond b 0 1) (2 ^ (low f + 1)))
+            (sym (ne_eqb rest 0 (some rest p)))
 
 -- ---- a value that is held is a whole number at both scales
 same_flag : (x y n : ℕ) → x + y ≡ n → eqb y 0 ≡ eqb x n
@@ -312,7 +338,8 @@ module _ (f : Format) (m : ℕ) (e : ℤ) (F : T (fits f (fin false (suc m) e)))
   unfolding root_twice root_of
   positive_root =
       ap (λ (x : ℕ). round f false (root_twice n) (2 ^ x)) (go (low f) (finer f).1)
-      ∙ root_rounds r0 left.0 (2 ^ i) n (root_below (size n) n) (pow_pos i) left_le fine_is (next (root_below (size n) n) n (whole_part n)) f i refl (R-ge f (suc m) e H)
+      ∙ root_rounds r0 left.0 (2 ^ i) n (root_below (size n) n) (pow_pos i) left_le fine_is
+      (next (root_below (size n) n) n (whole_part n)) f i refl (R-ge f (suc m) e H)
       ∙ ap (λ (b : Bool). round f false (2 * r0 + cond b 0 1) (2 ^ (low f + 1))) (same_flag (r0 * r0) left.0 n0 left.1)
     where
       go : (l : ℕ) → l + i ≡ 2271 → 2272 ≡ l + suc i

@@ -1,4 +1,5 @@
--- What a call of this crate says, in document 01's terms: a value, or the number of the refusal that holds. Definitions only.
+-- What a call of this crate says, in document 01's terms: a value, or the number of the refusal that holds.
+-- Definitions only.
 use Rattle.std.specs.Prelude.{ℕ, Float, Result, Ok, Err}
 use Rattle.refusals.specs.Refusal.{number}
 use Rattle.refusals.specs.declared.Refusal.{Refusal}

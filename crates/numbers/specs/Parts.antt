@@ -6,7 +6,8 @@ use Rattle.std.specs.Float.Ieee.Exact.{HasValue}
 use Rattle.numbers.specs.Log.{digits, ln_of, scaled}
 use Rattle.numbers.specs.declared.rounding.Parts.{Parts}
 
--- v is sig * 2 ^ j of the format's smallest value, with a sign; sig has as many digits as the format, or fewer where j is 0
+-- v is sig * 2 ^ j of the format's smallest value, with a sign; sig has as many digits as the format, or fewer where j
+-- is 0
 pub record Parted (f : Format) (v : Float) (p : Parts) : Type 0 where
   pub sign : Bool
   pub value : HasValue v sign (p.sig * 2 ^ p.j) (2 ^ low f)

@@ -9,13 +9,6 @@ ghost use Rattle.numbers.specs.Values.{narrow};
 
 use std::num::nearest_f64_to_f32_with_nan;
 
-// m / 2^64 to the nearest whole number, a tie to the even one.
-fn far_rounded(m: u64) -> u64
-    ensures { result ≡ closest m (2 ^ 64) }
-{
-    if 0x8000_0000_0000_0000 < m { 1 } else { 0 }
-}
-
 // m / 2^sh to the nearest whole number, a tie to the even one.
 pub(crate) fn rounded(m: u64, sh: u32) -> u64
     requires { 0 < sh }
@@ -25,7 +18,7 @@ pub(crate) fn rounded(m: u64, sh: u32) -> u64
         return 0;
     }
     if sh == 64 {
-        return far_rounded(m);
+        return u64::from(0x8000_0000_0000_0000 < m);
     }
     // the quotient, what is left below it, and the half
     let q = m >> sh;

@@ -53,7 +53,8 @@ module _ (a b : Float) (A : is_nan a ≡ false) (B : is_nan b ≡ false) where
   total_law = rw (A, B) (go (lt a b) (lt b a) refl refl)
     where
       go : (l g : Bool) → lt a b ≡ l → lt b a ≡ g
-          → (ordering_index (cond l Less (cond g Greater (cond (is_sign_negative a) (cond (is_sign_negative b) Equal Less) (cond (is_sign_negative b) Greater Equal)))) == 0)
+          → (ordering_index (cond l Less (cond g Greater
+          (cond (is_sign_negative a) (cond (is_sign_negative b) Equal Less) (cond (is_sign_negative b) Greater Equal)))) == 0)
           ≡ (l || (eq a b && negative a && not (negative b)))
       go true g l h = refl
       go false true l h = rw (apart l h (eq a b) refl)

@@ -2,8 +2,7 @@
 #![tactic(auto)]
 
 ghost use Rattle.std.specs.Prelude.{◌≡◌};
-ghost use Rattle.std.specs.Float.Ieee.Scale.{finite};
-ghost use Rattle.order.specs.Order.{clamp, larger, abs, negative, total_less};
+ghost use Rattle.order.specs.Order.{clamp, larger, negative, total_less};
 
 use std::cmp::Ordering;
 
@@ -25,27 +24,6 @@ pub fn max32(a: f32, b: f32) -> f32
     ensures { result ≡ larger a b }
 {
     if a.is_nan() || a < b { b } else { a }
-}
-
-// v without its sign: Rust's `v.abs()`.
-pub fn abs32(v: f32) -> f32
-    ensures { result ≡ abs v }
-{
-    v.abs()
-}
-
-// v without its sign: Rust's `v.abs()`.
-pub fn abs64(v: f64) -> f64
-    ensures { result ≡ abs v }
-{
-    v.abs()
-}
-
-// Whether v is neither NaN nor infinite: Rust's `v.is_finite()`.
-pub fn is_finite32(v: f32) -> bool
-    ensures { result ≡ finite v }
-{
-    v.is_finite()
 }
 
 // Whether the sign of v is minus; NaN has none. The library's `is_sign_negative` asks for a number.

@@ -19,7 +19,8 @@ impl TryFrom<f32> for Duration {
     ghost try_from_gives = { λ x r. (refusal_of r ≡ duration_refusal x) × IfOk r (λ d. d.ms ≡ x) };
 
     fn try_from(ms: f32) -> Result<Duration, Refusal> {
-        if !ms.is_finite() {
+        // compared, as `is_finite` takes a difference: in a host that unmasks exceptions, an infinity would signal
+        if !(ms.abs() < f32::INFINITY) {
             return Err(Refusal::EndlessDuration);
         }
         if ms < 0.015625 {

@@ -4,10 +4,9 @@
 ghost use Rattle.std.specs.Prelude.{◌≡◌};
 ghost use Rattle.std.specs.Float.Ieee.Positive.{positive};
 ghost use Rattle.ranges.specs.Interval.{within};
-ghost use Rattle.ranges.specs.Limits.{duration_min, duration_max, duration_refusal};
+ghost use Rattle.ranges.specs.Limits.{duration_min, duration_max};
 
 pub use duration::Duration;
-use order::is_finite32;
 
 mod duration;
 
@@ -30,20 +29,4 @@ pub fn is_duration(x: f32) -> bool
     ensures { result ≡ within duration_min duration_max x }
 {
     within(x, 0.015625, 262144.0)
-}
-
-// The refusal of a duration: 5, 6 or 7, or 0 where it is good.
-pub fn duration_refusal(x: f32) -> u8
-    ensures { result ≡ duration_refusal x }
-{
-    if is_finite32(x) {
-        if x < 0.015625 {
-            return 6;
-        }
-        if x > 262144.0 {
-            return 7;
-        }
-        return 0;
-    }
-    5
 }

@@ -2,7 +2,7 @@
 #![tactic(auto)]
 
 ghost use Rattle.std.specs.Prelude.{◌≡◌};
-ghost use Rattle.refusals.specs.Refusal.{number};
+ghost use Rattle.refusals.specs.Refusal.{coded, host_code, number, refusal_of};
 
 use std::error::Error;
 use std::fmt;
@@ -43,6 +43,25 @@ impl From<Refusal> for u8 {
             Refusal::NoRoot => 11,
             Refusal::BadLine => 12,
         }
+    }
+}
+
+impl Refusal {
+    // Its code as a host reads it: 128, which stands for R, and its number.
+    pub fn host_code(self) -> u8
+        ensures { result ≡ host_code self }
+    {
+        128 + u8::from(self)
+    }
+}
+
+// The code of a call that hands back nothing else, as a host reads it: 0, or its refusal's.
+pub fn coded(told: Result<(), Refusal>) -> u8
+    ensures { result ≡ coded (refusal_of told) }
+{
+    match told {
+        Ok(()) => 0,
+        Err(refusal) => refusal.host_code(),
     }
 }
 

@@ -27,24 +27,18 @@ low_power : (p m k t : ℕ) → m < 2 ^ p → k ≤ t → m * 2 ^ k ≤ (2 ^ p -
 low_power p m k t h l =
     subst (λ (z : ℕ). m * 2 ^ k ≤ (2 ^ p - 1) * 2 ^ z) (add-sub_of_le l)
     (subst (λ (z : ℕ). m * 2 ^ k ≤ (2 ^ p - 1) * z) (sym (pow-add 2 k (t - k)))
-    (mul-le-mul (most p m h) (subst (λ (z : ℕ). z ≤ 2 ^ k * 2 ^ (t - k)) (mul-one (2 ^ k))
-    (mul-le-mul {n₁ = 2 ^ k} {m₁ = 1} {n₂ = 2 ^ k} {m₂ = 2 ^ (t - k)} (omega arith) (pow_pos (t - k))))))
+    (mul-le-mul (most p m h) (subst (λ (z : ℕ). z ≤ 2 ^ k * 2 ^ (t - k)) (mul-one (2 ^ k)) (mul-le-mul {n₁ = 2 ^ k} {m₁ = 1} {n₂ = 2 ^ k} {m₂ = 2 ^ (t - k)} (omega arith) (pow_pos (t - k))))))
 
 -- 2 ^ t is no more than 2 ^ k
 high_power : (p m k t : ℕ) → t ≤ k → m * 2 ^ k < 2 ^ p * 2 ^ t → m * 2 ^ k ≤ (2 ^ p - 1) * 2 ^ t
 high_power p m k t l h =
     let q = m * 2 ^ (k - t) in
     let e : m * 2 ^ k ≡ q * 2 ^ t =
-    ap (λ (z : ℕ). m * 2 ^ z) (sym (add-sub_of_le l))
-    ∙ ap (λ (z : ℕ). m * z) (pow-add 2 t (k - t) ∙ mul_comm (2 ^ t) (2 ^ (k - t)))
-    ∙ sym (mul_assoc m (2 ^ (k - t)) (2 ^ t)) in
-    subst (λ (z : ℕ). z ≤ (2 ^ p - 1) * 2 ^ t) (sym e)
-    (mul-le-mul_right (2 ^ t) (most p q (lt_of_mul-lt-mul_right (2 ^ t) (subst (λ (z : ℕ). z < 2 ^ p * 2 ^ t) e h))))
+    ap (λ (z : ℕ). m * 2 ^ z) (sym (add-sub_of_le l)) ∙ ap (λ (z : ℕ). m * z) (pow-add 2 t (k - t) ∙ mul_comm (2 ^ t) (2 ^ (k - t))) ∙ sym (mul_assoc m (2 ^ (k - t)) (2 ^ t)) in
+    subst (λ (z : ℕ). z ≤ (2 ^ p - 1) * 2 ^ t) (sym e) (mul-le-mul_right (2 ^ t) (most p q (lt_of_mul-lt-mul_right (2 ^ t) (subst (λ (z : ℕ). z < 2 ^ p * 2 ^ t) e h))))
 
 power : (p m k t : ℕ) → m < 2 ^ p → m * 2 ^ k < 2 ^ p * 2 ^ t → m * 2 ^ k ≤ (2 ^ p - 1) * 2 ^ t
-power p m k t h l =
-    elim (either (leb k t))
-    [ inl y ↦ low_power p m k t h (leb→le k t y) | inr n ↦ high_power p m k t (le_of_lt (nleb→lt k t n)) l ]
+power p m k t h l = elim (either (leb k t)) [ inl y ↦ low_power p m k t h (leb→le k t y) | inr n ↦ high_power p m k t (le_of_lt (nleb→lt k t n)) l ]
 
 -- m itself is no more than m times what is at least 1, twice
 small : (a b c d : ℕ) → a ≤ b → 0 < c → 0 < d → a * 1 ≤ b * c * d
@@ -52,9 +46,7 @@ small a b c d h p q = mul-le-mul (subst (λ (z : ℕ). z ≤ b * c) (mul-one a) 
 
 -- ---- of floats
 numbers : (m : ℕ) (e : ℤ) → m < 2 ^ 24 → m * up e < 2 ^ 128 * down e → m * up e ≤ 16777215 * 2 ^ 104 * down e
-numbers m (pos k) h l =
-    subst (λ (z : ℕ). m * 2 ^ k ≤ z) (sym (mul-one (16777215 * 2 ^ 104)))
-    (power 24 m k 104 h (subst (λ (z : ℕ). m * 2 ^ k < z) (mul-one (2 ^ 128)) l))
+numbers m (pos k) h l = subst (λ (z : ℕ). m * 2 ^ k ≤ z) (sym (mul-one (16777215 * 2 ^ 104))) (power 24 m k 104 h (subst (λ (z : ℕ). m * 2 ^ k < z) (mul-one (2 ^ 128)) l))
 numbers m (negsuc k) h l = small m 16777215 (2 ^ 104) (2 ^ suc k) (le_ones 24 h) (pow_pos 104) (pow_pos (suc k))
 
 level : (a p d : ℕ) → a ≤ p * d → a * 1 + 0 * d ≤ p * d + 0 * 1
@@ -70,12 +62,8 @@ pub finite_most : (v : Float) → T (fits binary32 v) → T (finite v) → T (le
 finite_most nan F p = absurd p
 finite_most (inf s) F p = absurd p
 finite_most (fin true m e) F p = signed→le (fin true m e) largest tt tt (under (16777215 * 2 ^ 104) (down e) (m * up e))
-finite_most (fin false zero e) F p =
-    signed→le (fin false zero e) largest tt tt
-    (level (0 * up e) (16777215 * 2 ^ 104) (down e) (nothing (up e) (16777215 * 2 ^ 104 * down e)))
-finite_most (fin false (suc m) e) F p =
-    let w = fits_parts binary32 false m e F in signed→le (fin false (suc m) e) largest tt tt
-    (level (suc m * up e) (16777215 * 2 ^ 104) (down e) (numbers (suc m) e w.0 w.2))
+finite_most (fin false zero e) F p = signed→le (fin false zero e) largest tt tt (level (0 * up e) (16777215 * 2 ^ 104) (down e) (nothing (up e) (16777215 * 2 ^ 104 * down e)))
+finite_most (fin false (suc m) e) F p = let w = fits_parts binary32 false m e F in signed→le (fin false (suc m) e) largest tt tt (level (suc m * up e) (16777215 * 2 ^ 104) (down e) (numbers (suc m) e w.0 w.2))
 
 pub largest_is : of_bits binary32 0x7f7f_ffff ≡ largest
 unfolding of_bits

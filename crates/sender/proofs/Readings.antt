@@ -4,6 +4,7 @@ use mathlib.Core.Logic.{inl, inr}
 use mathlib.Core.Bool.{Bool, true, false, ◌&&◌, cond}
 use mathlib.Core.Option.{Option, none, some}
 use Prim.Native.Nat.{ℕ, zero, suc, ◌≤◌, ◌<◌}
+use native.Mathlib.Nat.{lt_irrefl, zero-lt-suc}
 use native.Mathlib.Omega.{arith}
 use lib.Dec.{T, eqb, leb}
 use Rattle.std.specs.Bool.{then_some}
@@ -29,10 +30,11 @@ use Rattle.ranges.proofs.Clamp as C
 use Rattle.sender.specs.declared.ClassStats.{ClassStats}
 use Rattle.sender.specs.Constants.{nominal_ratio, word_min, word_max, pause_min, pause_times, ratio_count}
 use Rattle.sender.specs.Model.{Class, Timing, view_class, held}
-use Rattle.sender.specs.Sound.{class_sound}
+use Rattle.sender.specs.Sound.{class_sound, sound}
 use Rattle.sender.specs.Steps.{enough, ratio, boundary, word_dits, char_gap_or, pauses}
-use Rattle.sender.specs.Answers.{in_dits, optional}
-use Rattle.sender.proofs.Views.{some_at}
+use Rattle.sender.specs.Answers.{in_dits, unless, state_refusal, optional, word_said}
+use Rattle.sender.specs.declared.TimingClass.TheVariants.{CharGap, WordGap}
+use Rattle.sender.proofs.Views.{some_at, sound_at}
 use Rattle.sender.proofs.Samples.{mean_in}
 
 -- ---- a sound mean is above zero, and the quotient of two is finite
@@ -42,9 +44,7 @@ mean_positive m i = between class_min m class_max tt tt i.0 i.1
 
 pub ratio_finite : (a b : Float) → In class_min class_max a → In class_min class_max b → T (finite (div binary32 a b))
 unfolding div of_bits
-ratio_finite a b i j =
-    in_finite (div binary32 class_min class_max) (div binary32 class_max class_min) (div binary32 a b) tt tt
-    (div_in binary32 class_min class_max a class_min class_max b tt tt tt tt i j)
+ratio_finite a b i j = in_finite (div binary32 class_min class_max) (div binary32 class_max class_min) (div binary32 a b) tt tt (div_in binary32 class_min class_max a class_min class_max b tt tt tt tt i j)
 
 -- ---- the root of what is above zero is finite
 valued_finite : (r : Float) (n c : ℕ) → HasValue r false n c → T (finite r)
@@ -58,8 +58,7 @@ root_finite nan F p = absurd p
 root_finite (inf s) F p = absurd p
 root_finite (fin true m e) F p = absurd p
 root_finite (fin false zero e) F p = absurd p
-root_finite (fin false (suc m) e) F p =
-    valued_finite (root_of binary32 (suc m) e) _ _ (root_is_nearest binary32 m e F).value
+root_finite (fin false (suc m) e) F p = valued_finite (root_of binary32 (suc m) e) _ _ (root_is_nearest binary32 m e F).value
 
 -- ---- the boundary
 product_positive : (a b : Float) → In class_min class_max a → In class_min class_max b → T (positive (mul binary32 a b))
@@ -80,45 +79,33 @@ nominal_finite : (a : Float) → In class_min class_max a → T (finite (mul bin
 unfolding mul le of_bits
 nominal_finite a i =
     let k = mul_in binary32 class_min class_max a nominal_root nominal_root nominal_root tt tt tt tt i (tt, tt) in
-    in_finite (mul binary32 class_min nominal_root) (mul binary32 class_max nominal_root) (mul binary32 a nominal_root)
-    tt tt k
+    in_finite (mul binary32 class_min nominal_root) (mul binary32 class_max nominal_root) (mul binary32 a nominal_root) tt tt k
 
-pub boundary_finite : (a : Float) (w : Option Class) → In class_min class_max a → T (class_sound w)
-    → T (finite (boundary a w))
+pub boundary_finite : (a : Float) (w : Option Class) → In class_min class_max a → T (class_sound w) → T (finite (boundary a w))
 unfolding boundary
 boundary_finite a none i h = rw nominal_root_law (nominal_finite a i)
-boundary_finite a (some w) i h =
-    root_finite (mul binary32 a w.mean) (mul-fits binary32 a w.mean) (product_positive a w.mean i (mean_in w h))
+boundary_finite a (some w) i h = root_finite (mul binary32 a w.mean) (mul-fits binary32 a w.mean) (product_positive a w.mean i (mean_in w h))
 
 -- "Clamped to" 3 to 12: where there is a char gap there is a boundary, and it lies there
-pub boundary_in : (a : Float) (w : Option Class) → In class_min class_max a → T (class_sound w)
-    → In word_min word_max (clamp word_min word_max (boundary a w))
+pub boundary_in : (a : Float) (w : Option Class) → In class_min class_max a → T (class_sound w) → In word_min word_max (clamp word_min word_max (boundary a w))
 unfolding is_nan le of_bits
-boundary_in a w i h =
-    C.clamp_in word_min word_max (boundary a w) tt tt (finite_number (boundary a w) (boundary_finite a w i h)) tt tt tt
+boundary_in a w i h = C.clamp_in word_min word_max (boundary a w) tt tt (finite_number (boundary a w) (boundary_finite a w i h)) tt tt tt
 
-pub word_is : (c : Class) (w : Option Class) → T (class_sound (some c)) → T (class_sound w)
-    → word_dits (some c) w ≡ some (clamp word_min word_max (boundary c.mean w))
+pub word_is : (c : Class) (w : Option Class) → T (class_sound (some c)) → T (class_sound w) → word_dits (some c) w ≡ some (clamp word_min word_max (boundary c.mean w))
 unfolding word_dits
 word_is c w h k = rw (is_true (finite (boundary c.mean w)) (boundary_finite c.mean w (mean_in c h) k))
 
 -- ---- the ratio
-pub ratio_is : (dot dash : Class) → T (class_sound (some dot)) → T (class_sound (some dash)) → enough dot ≡ true
-    → enough dash ≡ true → ratio (some dot) (some dash) ≡ some (div binary32 dash.mean dot.mean)
+pub ratio_is : (dot dash : Class) → T (class_sound (some dot)) → T (class_sound (some dash)) → enough dot ≡ true → enough dash ≡ true → ratio (some dot) (some dash) ≡ some (div binary32 dash.mean dot.mean)
 unfolding ratio
 ratio_is dot dash h k e f =
-    let q = div binary32 dash.mean dot.mean in
-    let p = above dot.mean (mean_positive dot.mean (mean_in dot h)) in
-    let r = ratio_finite dash.mean dot.mean (mean_in dash k) (mean_in dot h) in
-    rw (e, f, is_true (lt nought dot.mean) p, is_true (finite q) r)
+    rw (e, f, is_true (lt nought dot.mean) (above dot.mean (mean_positive dot.mean (mean_in dot h))), is_true (finite (div binary32 dash.mean dot.mean)) (ratio_finite dash.mean dot.mean (mean_in dash k) (mean_in dot h)))
   where
     above : (m : Float) → T (positive m) → T (lt nought m)
     above m p = elim (either (lt nought m)) [ inl t ↦ t | inr n ↦ absurd (subst T (sym (not_positive m n)) p) ]
 
 -- ---- as the code reads them
-few : (m v : Float) (n : ℕ) → n < ratio_count → (a : Bool) (o : Option Class)
-    → (ratio (cond a none (some (record { mean = m; var = v; n = n }))) o ≡ none)
-    × (ratio o (cond a none (some (record { mean = m; var = v; n = n }))) ≡ none)
+few : (m v : Float) (n : ℕ) → n < ratio_count → (a : Bool) (o : Option Class) → (ratio (cond a none (some (record { mean = m; var = v; n = n }))) o ≡ none) × (ratio o (cond a none (some (record { mean = m; var = v; n = n }))) ≡ none)
 unfolding ratio
 few m v n h true none = (refl, refl)
 few m v n h true (some c) = (refl, refl)
@@ -143,15 +130,11 @@ seen s e = some_at s.mean.0 s.var s.n e
 many : (n : ℕ) → ratio_count ≤ n → n ≡ 0 → ⊥
 many n h e = omega arith
 
-pub ratio_of : (dot dash : ClassStats) → T (class_sound (view_class dot)) → T (class_sound (view_class dash))
-    → ratio_count ≤ dot.n → ratio_count ≤ dash.n
-    → ratio (view_class dot) (view_class dash) ≡ some (div binary32 dash.mean.0 dot.mean.0)
+pub ratio_of : (dot dash : ClassStats) → T (class_sound (view_class dot)) → T (class_sound (view_class dash)) → ratio_count ≤ dot.n → ratio_count ≤ dash.n → ratio (view_class dot) (view_class dash) ≡ some (div binary32 dash.mean.0 dot.mean.0)
 ratio_of dot dash h k m n =
     let e = seen dot (many dot.n m) in
     let f = seen dash (many dash.n n) in
-    ap₂ ratio e f
-    ∙ ratio_is _ _ (subst (λ (o : Option Class). T (class_sound o)) e h)
-    (subst (λ (o : Option Class). T (class_sound o)) f k) (le-leb ratio_count dot.n m) (le-leb ratio_count dash.n n)
+    ap₂ ratio e f ∙ ratio_is _ _ (subst (λ (o : Option Class). T (class_sound o)) e h) (subst (λ (o : Option Class). T (class_sound o)) f k) (le-leb ratio_count dot.n m) (le-leb ratio_count dash.n n)
 
 -- what the code tests of the dashes, once there are enough dots
 pub ratio_known : (dot dash : ClassStats) (b : Bool) → T (class_sound (view_class dot))
@@ -169,15 +152,20 @@ word_of c o w e h k =
     ∙ word_is c w (subst (λ (o : Option Class). T (class_sound o)) (sym e) h) k
 
 -- ---- whatever is said of a word boundary lies from 3 to 12
-pub said_in : (o w : Option Class) (x : Float) → T (class_sound o) → T (class_sound w)
-    → optional in_dits (word_dits o w) ≡ in_dits x → In word_min word_max x
+pub said_in : (o w : Option Class) (x : Float) → T (class_sound o) → T (class_sound w) → optional in_dits (word_dits o w) ≡ in_dits x → In word_min word_max x
 unfolding word_dits
-said_in none w x h k e = absurd (cc)
+said_in none w x h k e = let z : ◌≡◌ {A = ℕ} 0 1 = cc in absurd (lt_irrefl 0 (subst (λ (n : ℕ). 0 < n) (sym z) (zero-lt-suc 0)))
 said_in (some c) w x h k e =
-    let d : in_dits (clamp word_min word_max (boundary c.mean w)) ≡ in_dits x =
-    sym (ap (optional in_dits) (word_is c w h k)) ∙ e in
+    let d : in_dits (clamp word_min word_max (boundary c.mean w)) ≡ in_dits x = sym (ap (optional in_dits) (word_is c w h k)) ∙ e in
     let q : clamp word_min word_max (boundary c.mean w) ≡ x = cc in
     subst (In word_min word_max) q (boundary_in c.mean w (mean_in c h) k)
+
+pub word_said_in : (t : Timing) (x : Float) → unless (state_refusal t) (word_said t) ≡ in_dits x → In word_min word_max x
+word_said_in t x e = go (sound t) (λ h. h) e
+  where
+    go : (b : Bool) → (T b → T (sound t)) → unless (cond b 0 1) (word_said t) ≡ in_dits x → In word_min word_max x
+    go true h e = said_in t.char_gap t.word_gap x (sound_at CharGap t (h tt)) (sound_at WordGap t (h tt)) e
+    go false h e = let z : ◌≡◌ {A = ℕ} 0 1 = cc in absurd (lt_irrefl 0 (subst (λ (n : ℕ). 0 < n) (sym z) (zero-lt-suc 0)))
 
 -- "`is_pause` of NaN is no"
 nothing_below_nan : (x : Float) → le x nan ≡ false

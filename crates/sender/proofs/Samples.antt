@@ -20,20 +20,17 @@ use Rattle.sender.proofs.Views.{some_at}
 use Rattle.sender.proofs.Variance.{variance_sound}
 
 -- a duration in dits is a sound mean
-pub dits_in : (dur dit : Float) → In duration_min duration_max dur → In dit_min dit_max dit
-    → In class_min class_max (dits dur dit)
+pub dits_in : (dur dit : Float) → In duration_min duration_max dur → In dit_min dit_max dit → In class_min class_max (dits dur dit)
 unfolding div le of_bits
 dits_in dur dit i j =
-    in_widen (div binary32 duration_min dit_max) (div binary32 duration_max dit_min) class_min class_max (dits dur dit)
-    tt tt (div_in binary32 duration_min duration_max dur dit_min dit_max dit tt tt tt tt i j)
+    in_widen (div binary32 duration_min dit_max) (div binary32 duration_max dit_min) class_min class_max (dits dur dit) tt tt (div_in binary32 duration_min duration_max dur dit_min dit_max dit tt tt tt tt i j)
 
 -- ---- what is sound of one class
 pub mean_in : (c : Class) → T (class_sound (some c)) → In class_min class_max c.mean
 unfolding class_sound
 mean_in c h = within_in class_min class_max c.mean (and_l (within class_min class_max c.mean) (var_sound c.var) h)
 
-class_made : (m v : Float) (n : ℕ) → In class_min class_max m → T (var_sound v)
-    → T (class_sound (some (record { mean = m; var = v; n = n })))
+class_made : (m v : Float) (n : ℕ) → In class_min class_max m → T (var_sound v) → T (class_sound (some (record { mean = m; var = v; n = n })))
 unfolding class_sound
 class_made m v n i s = and_i (within class_min class_max m) (var_sound v) (in_within class_min class_max m i) s
 
@@ -46,13 +43,11 @@ pub first_sound : (x : Float) → In class_min class_max x → T (class_sound (s
 unfolding observed_class le
 first_sound x j = class_made x nought 1 j tt
 
-pub next_sound : (c : Class) (x : Float) → T (fits binary32 c.mean) → T (fits binary32 c.var) → T (fits binary32 x)
-    → T (class_sound (some c)) → In class_min class_max x → T (class_sound (some (observed_class (some c) x)))
+pub next_sound : (c : Class) (x : Float) → T (fits binary32 c.mean) → T (fits binary32 c.var) → T (fits binary32 x) → T (class_sound (some c)) → In class_min class_max x → T (class_sound (some (observed_class (some c) x)))
 unfolding observed_class
 next_sound c x M S X h j =
     let i = mean_in c h in
-    class_made (mean_next c.mean (sub binary32 x c.mean)) (var_next c.var (sub binary32 x c.mean)) (counted c.n)
-    (class_average_in c.mean x M X i j) (variance_sound c.mean x i j c.var S (var_of c h))
+    class_made (mean_next c.mean (sub binary32 x c.mean)) (var_next c.var (sub binary32 x c.mean)) (counted c.n) (class_average_in c.mean x M X i j) (variance_sound c.mean x i j c.var S (var_of c h))
 
 -- ---- counts
 pub counted_some : (n : ℕ) → counted n ≡ 0 → ⊥
@@ -62,8 +57,7 @@ counted_some n e = let h : 1 ≤ min (n + 1) count_max = le-min (omega arith) (o
 -- ---- a later sample, as the code makes it
 module _ (c : Class) (o : Option Class) (x : Float) (e : some c ≡ o) where
   pub next_is : (k : ℕ) → k ≡ counted c.n
-      → sampled (mean_next c.mean (sub binary32 x c.mean)) (var_next c.var (sub binary32 x c.mean)) k ≡ some
-      (observed_class o x)
+      → sampled (mean_next c.mean (sub binary32 x c.mean)) (var_next c.var (sub binary32 x c.mean)) k ≡ some (observed_class o x)
   unfolding observed_class
   next_is k q =
       let m = mean_next c.mean (sub binary32 x c.mean) in

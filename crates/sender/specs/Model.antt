@@ -58,11 +58,11 @@ at WordGap t = t.word_gap
 
 -- the same with c in its place
 abbrev pub put : TimingClass → Option Class → Timing → Timing
-put Dot c t = record t { dot = c }
-put Dash c t = record t { dash = c }
-put ElementGap c t = record t { element_gap = c }
-put CharGap c t = record t { char_gap = c }
-put WordGap c t = record t { word_gap = c }
+put Dot c t = record { dot = c; dash = t.dash; element_gap = t.element_gap; char_gap = t.char_gap; word_gap = t.word_gap }
+put Dash c t = record { dot = t.dot; dash = c; element_gap = t.element_gap; char_gap = t.char_gap; word_gap = t.word_gap }
+put ElementGap c t = record { dot = t.dot; dash = t.dash; element_gap = c; char_gap = t.char_gap; word_gap = t.word_gap }
+put CharGap c t = record { dot = t.dot; dash = t.dash; element_gap = t.element_gap; char_gap = c; word_gap = t.word_gap }
+put WordGap c t = record { dot = t.dot; dash = t.dash; element_gap = t.element_gap; char_gap = t.char_gap; word_gap = c }
 
 -- ---- the view of the program's structs: "numbers marked absent are no part of a state"
 
@@ -116,13 +116,7 @@ abbrev pub blank_class : ClassStats
 blank_class = record { mean = record { 0 = nought }; var = nought; n = 0 }
 
 abbrev pub blank : SenderTiming
-blank = record {
-  dot = blank_class;
-  dash = blank_class;
-  element_gap = blank_class;
-  char_gap = blank_class;
-  word_gap = blank_class;
-}
+blank = record { dot = blank_class; dash = blank_class; element_gap = blank_class; char_gap = blank_class; word_gap = blank_class }
 
 -- the statistics of a class, and those put in
 abbrev pub stats_of : TimingClass → SenderTiming → ClassStats
@@ -133,8 +127,8 @@ stats_of CharGap s = s.char_gap
 stats_of WordGap s = s.word_gap
 
 abbrev pub with_stats : TimingClass → ClassStats → SenderTiming → SenderTiming
-with_stats Dot c s = record s { dot = c }
-with_stats Dash c s = record s { dash = c }
-with_stats ElementGap c s = record s { element_gap = c }
-with_stats CharGap c s = record s { char_gap = c }
-with_stats WordGap c s = record s { word_gap = c }
+with_stats Dot c s = record { dot = c; dash = s.dash; element_gap = s.element_gap; char_gap = s.char_gap; word_gap = s.word_gap }
+with_stats Dash c s = record { dot = s.dot; dash = c; element_gap = s.element_gap; char_gap = s.char_gap; word_gap = s.word_gap }
+with_stats ElementGap c s = record { dot = s.dot; dash = s.dash; element_gap = c; char_gap = s.char_gap; word_gap = s.word_gap }
+with_stats CharGap c s = record { dot = s.dot; dash = s.dash; element_gap = s.element_gap; char_gap = c; word_gap = s.word_gap }
+with_stats WordGap c s = record { dot = s.dot; dash = s.dash; element_gap = s.element_gap; char_gap = s.char_gap; word_gap = c }

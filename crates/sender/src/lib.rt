@@ -110,8 +110,8 @@ impl TryFrom<u8> for TimingClass {
     }
 }
 
-// What is known of one class: average and variance, which mean nothing while n is 0. No Option, since these numbers
-// lie in a host's memory as C's header has them.
+// What is known of one class: average and variance, which mean nothing while n is 0. No Option, since these numbers lie in
+// a host's memory as C's header has them.
 #[repr(C)]
 #[derive(Clone, Copy, Default)]
 pub struct ClassStats {
@@ -121,7 +121,7 @@ pub struct ClassStats {
 }
 
 impl ClassStats {
-    // The same statistics, where anything was observed.
+    // The same, where anything was observed.
     pub(crate) fn known(self) -> Option<ClassStats>
         ensures { seen result ≡ view_class self }
     {

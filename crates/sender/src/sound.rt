@@ -10,7 +10,7 @@ ghost use Rattle.sender.specs.Answers.{state_refusal};
 
 use crate::{ClassStats, Dits, Millis, SenderTiming, TimingClass, TimingEstimates};
 use numbers::root::BinaryFloat;
-use order::{clamp32, max32};
+use order::max32;
 use refusals::Refusal;
 
 // The root of 7/3: the Rust's `NOMINAL_WORD_CHAR_RATIO.sqrt()`.
@@ -71,7 +71,7 @@ impl SoundTiming {
     {
         let char_gap = self.timing.char_gap.known()?;
         let b = boundary(char_gap.mean, self.timing.word_gap);
-        Some(Dits(clamp32(b.0, 3.0, 12.0)))
+        Some(Dits(b.0.clamp(3.0, 12.0)))
     }
 
     // The average char gap, else 0.
@@ -79,10 +79,7 @@ impl SoundTiming {
     pub(crate) fn char_gap_or(self) -> Dits
         ensures { result.0 ≡ char_gap_or (view self.timing) }
     {
-        match self.timing.char_gap.known() {
-            Some(c) => c.mean,
-            None => Dits(0.0),
-        }
+        self.timing.char_gap.known().map_or(Dits(0.0), |c| c.mean)
     }
 
     // Whether a closed word gap is a pause.

@@ -7,4 +7,5 @@ pub returns-then-not-is_nan : goal.returns-then-not-is_nan
 returns-then-not-is_nan c = c.is_sign_negative.ensures ∙ sign_law _
 
 pub returns-else-not-is_nan : goal.returns-else-not-is_nan
-returns-else-not-is_nan c = ap not c.if-not-is_nan.false ∙ no_sign _ (sym c.is_nan.ensures.value ∙ c.if-not-is_nan.false)
+returns-else-not-is_nan c =
+    ap not c.if-not-is_nan.false ∙ no_sign _ (sym c.is_nan.ensures.value ∙ c.if-not-is_nan.false)

@@ -1,6 +1,6 @@
 -- `ranges::is_positive` meets its contract. Assumes nothing.
 use mathlib.Core.Path.{◌∙◌}
-use lib.Ieee.{of_bits, nan_bits, neg}
+use lib.Ieee.{of_bits, neg}
 use Rattle.ranges.proofs.Compare.{passed, failed}
 use Rattle.ranges.proofs.Door.{positive_is, not_positive}
 use Rattle.ranges.proofs.is_positive.Goals as goal

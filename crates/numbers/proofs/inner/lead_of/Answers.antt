@@ -23,15 +23,6 @@ take_apart-p-requires c = plain_finite c.args.v (plain c.args.v c.requires)
 pub overflow_sub-result : goal.overflow_sub-result
 overflow_sub-result c = let k = most (count c.before) in omega arith
 
-pub overflow_cast-result : goal.overflow_cast-result
-overflow_cast-result c = let k = small (count c.before) in omega arith
-
-pub overflow_shl-result : goal.overflow_shl-result
-overflow_shl-result c = let k = small (count c.before.before) in omega arith
-
-pub overflow_cast-result-3 : goal.overflow_cast-result-3
-overflow_cast-result-3 c = let k = small (count c.before.before.before) in omega arith
-
 pub overflow_sub-result-2 : goal.overflow_sub-result-2
 overflow_sub-result-2 c = let k = small (count c.before.before.before) in omega arith
 

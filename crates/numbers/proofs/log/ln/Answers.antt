@@ -19,6 +19,7 @@ returns-then-is_finite c = said_ln _ _ (passed c.before) c.ln_of.ensures
 pub returns-else-v : goal.returns-else-v
 returns-else-v c =
     no_said_ln _ (elim c.else-v.branch [
-      | else-v-via-then-v+else-is_finite w ↦ rw (← positive_law binary32, w.if-v.true) (sym w.is_finite.ensures.value ∙ w.if-is_finite.false)
+      | else-v-via-then-v+else-is_finite w ↦
+          rw (← positive_law binary32, w.if-v.true) (sym w.is_finite.ensures.value ∙ w.if-is_finite.false)
       | else-v-via-else-v w ↦ rw (← positive_law binary32, w.if-v.false)
     ])

@@ -1,10 +1,7 @@
 -- `numbers::log::two_digits` meets its contract: `proofs/LogLaws.antt` has the invariant. Assumes nothing.
 use Rattle.std.proofs.Common.{arith}
-use Rattle.numbers.proofs.LogLaws.{begin, fits, again, ended}
+use Rattle.numbers.proofs.LogLaws.{fits, again, ended}
 use Rattle.numbers.proofs.log.two_digits.Goals as goal
-
-pub loop-init : goal.loop-init
-loop-init c = (begin c.args.y c.requires.bound.0 c.requires.bound.1, begin c.args.z c.requires.bound_2.0 c.requires.bound_2.1)
 
 pub one_digit-p-requires : goal.one_digit-p-requires
 one_digit-p-requires c = let g = c.loop.invariant.0 in (g.low, g.high, fits g)

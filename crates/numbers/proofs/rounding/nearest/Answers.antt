@@ -1,9 +1,9 @@
 -- `numbers::rounding::nearest` meets its contract: `proofs/Rounds.antt` says what is dropped and what is kept. Assumes nothing.
-use Rattle.std.proofs.Common.{◌≡◌, ℕ, suc, ◌+◌, ◌-◌, ◌*◌, ◌%◌, ◌^◌, ◌<◌, ◌≤◌, sym, refl, ◌∙◌, inl, le_of_lt, arith, lit≤}
+use Rattle.std.proofs.Common.{◌≡◌, ℕ, ◌+◌, ◌-◌, ◌*◌, ◌%◌, ◌^◌, ◌<◌, ◌≤◌, sym, refl, ◌∙◌, le_of_lt, arith}
 use lib.Count.{count_leading_zeros, leading_le}
 use lib.Ieee.{binary32}
 use lib.Ieee.Nearest.{closest}
-use Rattle.numbers.proofs.Rounds.{round_zero, Word, word, digits_of}
+use Rattle.numbers.proofs.Rounds.{round_zero, Word, word}
 use Rattle.numbers.proofs.rounding.nearest.Goals as goal
 use Rattle.numbers.proofs.rounding.nearest.Goals.{Else-z-x, Start, Then-z-x}
 
@@ -17,13 +17,6 @@ small_drops z j h g = omega arith
 
 normal_digits : (z j : ℕ) → z ≤ 64 → 885 + z ≤ j → 1098 ≤ 149 + (64 - z + j)
 normal_digits z j h g = omega arith
-
--- z places bring the leading one to bit 63
-zeros_lt : (m : ℕ) → m < 2 ^ 64 → (m ≡ 0 → ⊥) → count_leading_zeros 64 m < 64
-zeros_lt m M N = let d = digits_of m M N in go (count_leading_zeros 64 m) d.0 d.1
-  where
-    go : (x i : ℕ) → 64 - x ≡ suc i → x < 64
-    go x i e = omega arith
 
 -- ---- a normal f32
 module _ (c : Then-z-x) where
@@ -48,17 +41,8 @@ module _ (c : Else-z-x) where
   small = word binary32 925 refl t.args.m t.args.j 0 925 t.ranges.m.fits c.if-m-eq0.false
       (small_drops _ _ (leading_le 64 t.args.m) c.if-z-x.false) refl
 
-pub pack-requires : goal.pack-requires
-pack-requires c = (lit≤ tt, inl refl)
-
 pub returns-then-m-eq0 : goal.returns-then-m-eq0
 returns-then-m-eq0 c = let s = c.before.before in c.pack.ensures ∙ sym (round_zero binary32 s.args.neg s.args.m s.args.j c.if-m-eq0.true)
-
-pub overflow_add-z : goal.overflow_add-z
-overflow_add-z c = let h = leading_le 64 c.args.m in omega arith
-
-pub overflow_shl-m : goal.overflow_shl-m
-overflow_shl-m c = zeros_lt c.args.m c.ranges.m.fits c.if-m-eq0.false
 
 pub pack-requires-then-z-x : goal.pack-requires-then-z-x
 pack-requires-then-z-x c = (normal c.before).ok _ (normal_kept c.before _ c.rounded.ensures)
@@ -67,9 +51,6 @@ pub returns-then-z-x : goal.returns-then-z-x
 returns-then-z-x c =
     c.pack-then-z-x.ensures
     ∙ (normal c.before.before).is _ _ (normal_kept c.before.before _ c.rounded.ensures)
-
-pub overflow_shl-m-then-x-ge925 : goal.overflow_shl-m-then-x-ge925
-overflow_shl-m-then-x-ge925 c = let z = leading_le 64 c.args.m in omega arith
 
 pub pack-requires-then-x-ge925 : goal.pack-requires-then-x-ge925
 pack-requires-then-x-ge925 c = (small c.before).ok _ ((small c.before).shl c.if-x-ge925.true)

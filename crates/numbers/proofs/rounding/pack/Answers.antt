@@ -1,7 +1,7 @@
 -- `numbers::rounding::pack` meets its contract: `proofs/Packs.antt` says what the pattern is read as. Assumes nothing.
-use Rattle.std.proofs.Common.{◌≡◌, ℕ, ◌+◌, ◌^◌, ◌<◌, min, cond, not, T, sym, ap, ◌∙◌, subst, lit≤, shl_exact}
+use Rattle.std.proofs.Common.{◌≡◌, ℕ, ◌+◌, ◌^◌, min, cond, not, T, sym, ap, ◌∙◌, subst, lit≤, shl_exact}
 use lib.Ieee.{binary32, nan_bits, of_bits}
-use Rattle.numbers.proofs.Packs.{pattern, pattern_is, pattern_lt, pattern_number}
+use Rattle.numbers.proofs.Packs.{pattern, pattern_is, pattern_number}
 use Rattle.numbers.proofs.rounding.pack.Goals as goal
 use Rattle.numbers.proofs.rounding.pack.Goals.{After-min}
 
@@ -14,9 +14,6 @@ module _ (c : After-min) where
       ap (λ (x : ℕ). x + c.min.result) c.sign_bit.ensures
       ∙ ap (λ (x : ℕ). cond c.args.neg (2 ^ 31) 0 + x)
       (c.min.ensures ∙ ap (λ (x : ℕ). min (x + c.args.q) 2139095040) (shl_exact 32 23 64 c.ranges.k.fits (lit≤ tt)))
-
-pub overflow_add-result : goal.overflow_add-result
-overflow_add-result c = record { fits = subst (λ (x : ℕ). x < 2 ^ 32) (sym (is c)) (pattern_lt binary32 c.args.neg c.args.q c.args.k c.requires.0 c.requires.1) }
 
 pub float_from_bits-result : goal.float_from_bits-result
 float_from_bits-result c = subst (λ (x : ℕ). T (not (nan_bits binary32 x))) (sym (is c)) (pattern_number binary32 c.args.neg c.args.q c.args.k c.requires.0 c.requires.1)

@@ -14,5 +14,5 @@ pub returns : goal.returns
 returns c =
     let s = c.args.self in
     let t = view s.timing in
-    ap some (c.clamp32.ensures ∙ ap (λ (x : Float). clamp word_min word_max x) c.boundary-b.ensures)
+    ap some (c.clamp.ensures.value ∙ ap (λ (x : Float). clamp word_min word_max x) c.boundary-b.ensures)
     ∙ sym (word_of _ _ _ c.in_ok-char_gap.ensures (sound_at CharGap t s.held) (sound_at WordGap t s.held))
