@@ -5,7 +5,7 @@ use mathlib.Core.List.{List, [], ◌∷◌, ◌++◌}
 use Prim.Native.Nat.{ℕ, ◌+◌, ◌≤◌, zero, suc, ◌-◌}
 use native.Mathlib.Omega.{arith}
 use lib.Dec.{T}
-use lib.ListN.{length, drop, length-append, length-drop}
+use lib.ListN.{length, take, drop, length-append, length-drop}
 use lib.Ieee.{Float, le}
 use lib.Ieee.Fits.{and_l, and_r, and_i}
 use Rattle.ranges.specs.Limits.{duration_min, duration_max}
@@ -21,9 +21,10 @@ pub inside : (lo hi x : Float) → T (within lo hi x) → In lo hi x
 inside lo hi x t = both (le lo x) (le x hi) t
 
 pub durations_in : (l : List Float) → T (all_durations l) → AllIn duration_min duration_max l
-unfolding all AllIn
+unfolding AllIn
 durations_in [] t = tt
-durations_in (x ∷ xs) t = let p = both (duration x) (all_durations xs) t in (inside duration_min duration_max x p.0, durations_in xs p.1)
+durations_in (x ∷ xs) t =
+    let p = both (duration x) (all_durations xs) t in (inside duration_min duration_max x p.0, durations_in xs p.1)
 
 pub join : (a b : Bool) → T a → T b → T (a && b)
 join a b s t = and_i a b s t
@@ -31,24 +32,34 @@ join a b s t = and_i a b s t
 pub outside : (lo hi x : Float) → In lo hi x → T (within lo hi x)
 outside lo hi x i = join (le lo x) (le x hi) i.0 i.1
 
+pub held_durations : (l : List Float) → AllIn duration_min duration_max l → T (all_durations l)
+unfolding AllIn
+held_durations [] m = tt
+held_durations (x ∷ xs) m =
+    join (duration x) (all_durations xs) (outside duration_min duration_max x m.0) (held_durations xs m.1)
+
 -- ---- tests of lists
 module _ {A : Type 0} (p : A → Bool) where
-  append_all : (l : List A) (x : A) → T (all p l) → T (p x) → T (all p (l ++ (x ∷ [])))
-  unfolding all
+  pub append_all : (l : List A) (x : A) → T (all p l) → T (p x) → T (all p (l ++ (x ∷ [])))
   append_all [] x t u = join (p x) true u tt
-  append_all (y ∷ ys) x t u = let b = both (p y) (all p ys) t in join (p y) (all p (ys ++ (x ∷ []))) b.0 (append_all ys x b.1 u)
+  append_all (y ∷ ys) x t u =
+      let b = both (p y) (all p ys) t in join (p y) (all p (ys ++ (x ∷ []))) b.0 (append_all ys x b.1 u)
 
-  drop_all : (n : ℕ) (l : List A) → T (all p l) → T (all p (drop n l))
-  unfolding all
-  drop_all zero l t = t
-  drop_all (suc n) [] t = tt
-  drop_all (suc n) (y ∷ ys) t = drop_all n ys (both (p y) (all p ys) t).1
+  pub drop_held : (n : ℕ) (l : List A) → T (all p l) → T (all p (drop n l))
+  drop_held zero l t = t
+  drop_held (suc n) [] t = tt
+  drop_held (suc n) (y ∷ ys) t = drop_held n ys (both (p y) (all p ys) t).1
+
+  pub take_held : (n : ℕ) (l : List A) → T (all p l) → T (all p (take n l))
+  take_held zero l t = tt
+  take_held (suc n) [] t = tt
+  take_held (suc n) (y ∷ ys) t =
+      let b = both (p y) (all p ys) t in join (p y) (all p (take n ys)) b.0 (take_held n ys b.1)
 
   pub pushed_all : (n : ℕ) (l : List A) (x : A) → T (all p l) → T (p x) → T (all p (pushed n l x))
-  pushed_all n l x t u = drop_all (length (l ++ (x ∷ [])) - n) (l ++ (x ∷ [])) (append_all l x t u)
+  pushed_all n l x t u = drop_held (length (l ++ (x ∷ [])) - n) (l ++ (x ∷ [])) (append_all l x t u)
 
   pub none_all : T (all p [])
-  unfolding all
   none_all = tt
 
 pub pushed_some : {A : Type 0} (n : ℕ) (l : List A) (x : A) → 1 ≤ n → 1 ≤ length (pushed n l x)

@@ -5,10 +5,10 @@ use mathlib.Core.List.{List, [], ◌∷◌}
 use Prim.Native.Nat.{ℕ, zero, suc, ◌+◌, ◌-◌, ◌*◌, ◌≤◌, ◌<◌}
 use native.Mathlib.Numerals.{add-one}
 use native.Mathlib.Omega.{arith}
-use lib.Seq.{length-take-le, get_or-take, take_all}
+use lib.Seq.{take_all}
 use lib.IntN.{pos}
 use lib.Dec.{T}
-use lib.ListN.{length, take, drop, get_or, length-take, length-drop, drop_of_length-le}
+use lib.ListN.{length, take, drop, get_or, length-drop, drop_of_length-le}
 use lib.Ieee.{Float, nan, fin, binary32, div, lt, le, of_bits, fits}
 use lib.Ieee.Positive.{positive, den, between, positive-finite}
 use Rattle.ranges.specs.Limits.{nought, duration_min, duration_max}
@@ -18,9 +18,11 @@ use Rattle.ranges.proofs.Rounded.{Rounded, rounded_mono, div_rounded}
 use Rattle.ranges.proofs.Own.{own_rounded}
 use Rattle.ranges.proofs.Compare.{passed}
 use Rattle.ranges.specs.Mean.{mean_of}
+use Rattle.marks.specs.Lists.{duration, all_durations}
 use Rattle.marks.specs.Parts.{Halved}
 use Rattle.marks.specs.Constants.{two}
 use Rattle.marks.specs.Sort.{greater, insert, insert_all, sorted, ratios, first_largest, cut, parts}
+use Rattle.marks.proofs.Bounds.{drop_held, durations_in, held_durations}
 
 pub ratios_long : (s : List Float) → length (ratios s) ≡ length s - 1
 unfolding ratios
@@ -28,7 +30,8 @@ ratios_long [] = refl
 ratios_long (x ∷ []) = refl
 ratios_long (x ∷ y ∷ ys) = let e = ratios_long (y ∷ ys) in omega arith
 
-ratio_next : (s : List Float) (i : ℕ) → suc i < length s → drop i (ratios s) ≡ div binary32 (get_or s (suc i) nan) (get_or s i nan) ∷ drop (suc i) (ratios s)
+ratio_next : (s : List Float) (i : ℕ) → suc i < length s
+    → drop i (ratios s) ≡ div binary32 (get_or s (suc i) nan) (get_or s i nan) ∷ drop (suc i) (ratios s)
 unfolding ratios
 ratio_next [] i h = absurd (omega arith)
 ratio_next (x ∷ []) i h = absurd (omega arith)
@@ -36,54 +39,52 @@ ratio_next (x ∷ y ∷ ys) zero h = refl
 ratio_next (x ∷ y ∷ ys) (suc i) h = ratio_next (y ∷ ys) i (omega arith)
 
 -- ---- the loop: the first i ratios are read, the largest of them is top, at best
-pub record Cutting (s : List Float) (n i best : ℕ) (top : Float) : Type 0 where
-  pub upto : i ≤ n
-  pub whole : n + 1 ≡ length s
-  pub is : first_largest 0 0 nought (ratios s) ≡ first_largest i best top (drop i (ratios s))
-
-pub cut_begins : (s : List Float) → 0 < length s → Cutting s (length s - 1) 0 0 (of_bits binary32 0)
+pub cut_begins : (s : List Float)
+    → first_largest 0 0 (of_bits binary32 0) (ratios s) ≡ first_largest 0 0 nought (ratios s)
 unfolding of_bits
-cut_begins s h = record { upto = omega arith; whole = omega arith; is = refl }
+cut_begins s = refl
 
-turn : (i best : ℕ) (top r : Float) (rs : List Float) (b : Bool) → lt top r ≡ b → first_largest i best top (r ∷ rs) ≡ first_largest (suc i) (cond b i best) (cond b r top) rs
+turn : (i best : ℕ) (top r : Float) (rs : List Float) (b : Bool) → lt top r ≡ b
+    → first_largest i best top (r ∷ rs) ≡ first_largest (suc i) (cond b i best) (cond b r top) rs
 unfolding first_largest
 turn i best top r rs b e = rw e
 
 abbrev pub ratio : List Float → ℕ → Float
 ratio s i = div binary32 (get_or s (i + 1) nan) (get_or s i nan)
 
-opened : (s : List Float) (n i best : ℕ) (top : Float) (b : Bool) → i < n → Cutting s n i best top → lt top (ratio s i) ≡ b → Cutting s n (i + 1) (cond b i best) (cond b (ratio s i) top)
-opened s n i best top b h v e =
-    let w = v.whole in
+opened : (s : List Float) (i best : ℕ) (top : Float) (b : Bool) → i + 1 < length s → lt top (ratio s i) ≡ b
+    → first_largest i best top (drop i (ratios s))
+    ≡ first_largest (i + 1) (cond b i best) (cond b (ratio s i) top) (drop (i + 1) (ratios s))
+opened s i best top b h e =
     let q : ratio s i ≡ div binary32 (get_or s (suc i) nan) (get_or s i nan) = rw add-one in
-    record {
-      upto = omega arith;
-      whole = w;
-      is = v.is ∙ ap (first_largest i best top) (ratio_next s i (omega arith)) ∙ turn i best top (div binary32 (get_or s (suc i) nan) (get_or s i nan)) (drop (suc i) (ratios s)) b (ap (lt top) (sym q) ∙ e) ∙ rw (sym q, sym (add-one i));
-    }
+    let n = ratio_next s i (omega arith) in
+    let t = turn i best top _ (drop (suc i) (ratios s)) b (ap (lt top) (sym q) ∙ e) in
+    ap (first_largest i best top) n ∙ t ∙ rw (sym q, sym (add-one i))
 
-pub cut_takes : (s : List Float) (n i best best' : ℕ) (top top' : Float) → i < n → Cutting s n i best top → lt top (ratio s i) ≡ true → best' ≡ i → top' ≡ ratio s i → Cutting s n (i + 1) best' top'
-cut_takes s n i best best' top top' h v e p q = rw (p, q) (opened s n i best top true h v e)
+pub cut_takes : (s : List Float) (l i best : ℕ) (top : Float) → i + 1 < length s
+    → first_largest i best top (drop i (ratios s)) ≡ l → lt top (ratio s i) ≡ true
+    → first_largest (i + 1) i (ratio s i) (drop (i + 1) (ratios s)) ≡ l
+cut_takes s l i best top h v e = sym (opened s i best top true h e) ∙ v
 
-pub cut_leaves : (s : List Float) (n i best best' : ℕ) (top top' : Float) → i < n → Cutting s n i best top → lt top (ratio s i) ≡ false → best' ≡ best → top' ≡ top → Cutting s n (i + 1) best' top'
-cut_leaves s n i best best' top top' h v e p q = rw (p, q) (opened s n i best top false h v e)
+pub cut_leaves : (s : List Float) (l i best : ℕ) (top : Float) → i + 1 < length s
+    → first_largest i best top (drop i (ratios s)) ≡ l → lt top (ratio s i) ≡ false
+    → first_largest (i + 1) best top (drop (i + 1) (ratios s)) ≡ l
+cut_leaves s l i best top h v e = sym (opened s i best top false h e) ∙ v
 
-ends : (i best : ℕ) (top : Float) (l : List Float) → length l ≤ i → first_largest i best top (drop i l) ≡ best
+pub cut_ends : (s : List Float) (l i best : ℕ) (top : Float) → length s ≤ i + 1
+    → first_largest i best top (drop i (ratios s)) ≡ l → best ≡ l
 unfolding first_largest
-ends i best top l h = rw (drop_of_length-le l h)
-
-pub cut_ends : (s : List Float) (n i best : ℕ) (top : Float) → n ≤ i → Cutting s n i best top → best ≡ first_largest 0 0 nought (ratios s)
-cut_ends s n i best top h v =
-    let w = v.whole in
-    let l = ratios_long s in
-    sym (v.is ∙ ends i best top (ratios s) (omega arith))
+cut_ends s l i best top h v =
+    let n = ratios_long s in
+    ap (first_largest i best top) (sym (drop_of_length-le (ratios s) {i = i} (omega arith))) ∙ v
 
 -- ---- where the cut lies: at least one mark is before it, and one after it
 
 within : (i best : ℕ) (top : Float) (l : List Float) → best < i + length l → first_largest i best top l < i + length l
 unfolding first_largest
 within i best top [] h = h
-within i best top (r ∷ rs) h = step (within (suc i) (cond (lt top r) i best) (cond (lt top r) r top) rs (chosen (lt top r)))
+within i best top (r ∷ rs) h =
+    step (within (suc i) (cond (lt top r) i best) (cond (lt top r) r top) rs (chosen (lt top r)))
   where
     step : {a : ℕ} → a < suc i + length rs → a < i + suc (length rs)
     step q = omega arith
@@ -97,6 +98,9 @@ cut_inside s h =
     let l = ratios_long s in
     let w = within 0 0 nought (ratios s) (omega arith) in
     omega arith
+
+-- what the loop cites
+pub ruleset cutting = (cut_begins, cut_takes, cut_leaves, cut_ends, cut_inside)
 
 -- ---- sorted marks are as many, and are the same marks: durations stay durations
 
@@ -144,6 +148,9 @@ module _ (lo hi : Float) where
   drop_in (suc n) [] m = tt
   drop_in (suc n) (x ∷ xs) m = drop_in n xs m.1
 
+pub sorted_held : (l : List Float) → T (all_durations l) → T (all_durations (sorted l))
+sorted_held l m = held_durations (sorted l) (sorted_in duration_min duration_max l (durations_in l m))
+
 -- ---- one mark alone does not part: x / x is at most 1
 
 own_cross : (a b : ℕ) → a * 1 + 0 * a ≤ 1 * a + b * 1
@@ -171,30 +178,19 @@ parts_two (x ∷ []) h m e =
     absurd (below_two (le_trans_float two (div binary32 x x) unit (passed e) (self_ratio x (between duration_min x duration_max tt tt m.0.0 m.0.1))))
 parts_two (x ∷ y ∷ ys) h m e = omega arith
 
--- ---- the first n places of an array, as the code reads them
-pub parts_is : (s : List Float) (n : ℕ) → 1 ≤ n → n ≤ length s → parts (take n s) ≡ le two (div binary32 (get_or s (n - 1) nan) (get_or s 0 nan))
-parts_is s n h l =
-    let e : length (take n s) ≡ n = length-take-le n s l in
-    rw (e, get_or-take n s (n - 1) nan (omega arith), get_or-take n s 0 nan (omega arith))
-
-pub cut_bound : (s : List Float) (r : ℕ) → 2 ≤ length s → r ≡ first_largest 0 0 nought (ratios s) → r + 1 < length s
-cut_bound s r h e = rw e (cut_inside s h)
-
--- the part up to the cut and the part from it, as a slice gives them
-pub front_long : (s : List Float) (n : ℕ) → n ≤ length s → n ≡ length (take n s)
-front_long s n h = sym (length-take-le n s h)
-
 pub back_is : (s : List Float) (n : ℕ) → take (length s - n) (drop n s) ≡ drop n s
 back_is s n = take_all (length s - n) (drop n s) (let e = length-drop n s in omega arith)
 
-pub front_asks : (s : List Float) (n : ℕ) → length s ≤ 12 → AllIn duration_min duration_max s → AllIn duration_min duration_max (take n s) × (length (take n s) ≤ 12)
-front_asks s n h m = (take_in duration_min duration_max n s m, simp length-take (omega arith))
+pub back_held : (s : List Float) (n : ℕ) → T (all_durations s) → T (all_durations (take (length s - n) (drop n s)))
+back_held s n m = rw (back_is s n) (drop_held duration n s m)
 
-pub back_asks : (s : List Float) (n : ℕ) → length s ≤ 12 → AllIn duration_min duration_max s
-    → AllIn duration_min duration_max (take (length s - n) (drop n s)) × (length (take (length s - n) (drop n s)) ≤ 12)
-back_asks s n h m = rw (back_is s n) (drop_in duration_min duration_max n s m, let e = length-drop n s in omega arith)
-
-pub halves : (s : List Float) (r : ℕ) (lo hi : Float) → r ≡ first_largest 0 0 nought (ratios s) → lo ≡ mean_of (take (r + 1) s) → hi ≡ mean_of (take (length s - (r + 1)) (drop (r + 1) s)) → Halved s (record { cut = r + 1; lo = lo; hi = hi })
+pub halves : (s : List Float) (r : ℕ) (lo hi : Float) → r ≡ first_largest 0 0 nought (ratios s)
+    → lo ≡ mean_of (take (r + 1) s) → hi ≡ mean_of (take (length s - (r + 1)) (drop (r + 1) s))
+    → Halved s (record { cut = r + 1; lo = lo; hi = hi })
 halves s r lo hi e p q =
     let c : r + 1 ≡ cut s = add-one r ∙ ap suc e in
-    record { at = c; low = p ∙ ap (λ (n : ℕ). mean_of (take n s)) c; high = q ∙ ap mean_of (back_is s (r + 1)) ∙ ap (λ (n : ℕ). mean_of (drop n s)) c }
+    record {
+      at = c;
+      low = p ∙ ap (λ (n : ℕ). mean_of (take n s)) c;
+      high = q ∙ ap mean_of (back_is s (r + 1)) ∙ ap (λ (n : ℕ). mean_of (drop n s)) c;
+    }

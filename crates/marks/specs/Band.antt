@@ -1,12 +1,13 @@
 -- How far marks or gaps lie apart, and the gaps of a band (the Rust's `resolve_unimodal_bootstrap`, and the sums of `check_drift`). Definitions only.
-use Rattle.std.specs.Prelude.{Bool, true, false, ◌&&◌, List, [], ◌∷◌, leb, length, Float}
+use Rattle.std.specs.Prelude.{Bool, ◌&&◌, List, leb, length, Float}
+use Rattle.std.specs.List.{filter}
 use Rattle.std.specs.Float.{binary32, binary64}
 use Rattle.std.specs.Float.Ieee.{mul, div, lt, le}
 use Rattle.std.specs.Float.Ieee.Scale.{finite}
 use Rattle.numbers.specs.Root.{sqrt_of}
 use Rattle.ranges.specs.Settings.{Settings}
 use Rattle.ranges.specs.Mean.{mean64, variance_about}
-use Rattle.marks.specs.Constants.{one, two, dah_gap_frac, cv_max}
+use Rattle.marks.specs.Constants.{one, dah_gap_frac, cv_max}
 
 -- standard deviation over mean, of marks (or gaps) and their mean, in f64: "cv"
 abbrev pub deviation : Float → List Float → Float
@@ -19,13 +20,9 @@ abbrev pub in_band : Settings → Float → Float → Bool
 in_band k lo g =
     finite g && (le (mul binary32 lo (div binary32 one k.ratio_max)) g && lt g (mul binary32 lo dah_gap_frac))
 
-abbrev pub cons_if : Bool → Float → List Float → List Float
-cons_if true x l = x ∷ l
-cons_if false x l = l
-
-unfoldable pub band : Settings → Float → List Float → List Float
-band k lo [] = []
-band k lo (g ∷ gs) = cons_if (in_band k lo g) g (band k lo gs)
+-- those of them that do, in order
+abbrev pub band : Settings → Float → List Float → List Float
+band k lo gaps = filter (in_band k lo) gaps
 
 -- "the in-range gaps must agree": two at least, with a deviation below 0.35
 abbrev pub agree : List Float → Bool

@@ -1,10 +1,7 @@
 -- What the parts of the code say. Definitions only.
-use Rattle.std.specs.Prelude.{◌≡◌, List, ◌≤◌, take, drop, Float}
-use Rattle.ranges.specs.Settings.{standard}
+use Rattle.std.specs.Prelude.{◌≡◌, List, take, drop, Float}
 use Rattle.ranges.specs.Mean.{mean_of}
 use Rattle.marks.specs.declared.inner.cut.Halves.{Halves}
-use Rattle.marks.specs.declared.inner.band.Gaps.{Gaps}
-use Rattle.marks.specs.Band.{band}
 use Rattle.marks.specs.Sort.{cut}
 
 -- sorted marks, cut
@@ -12,8 +9,3 @@ pub record Halved (s : List Float) (r : Halves) : Type 0 where
   pub at : r.cut ≡ cut s
   pub low : r.lo ≡ mean_of (take (cut s) s)
   pub high : r.hi ≡ mean_of (drop (cut s) s)
-
--- the gaps of a band, in the first places
-pub record Banded (lo : Float) (gaps : List Float) (r : Gaps) : Type 0 where
-  pub few : r.n ≤ 12
-  pub is : take r.n r.at ≡ band standard lo gaps

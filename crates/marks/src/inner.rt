@@ -1,4 +1,5 @@
-// What the layers above call: each function asks what it needs.
+// What the layers above call. What a function needs is borne by its arguments' types (`Marks`, `Gaps`, `List`), or
+// asked by its `requires`.
 pub mod band;
 pub mod cut;
 pub mod places;

@@ -2,3 +2,6 @@
 #![tactic(auto)]
 
 pub mod inner;
+mod list;
+
+pub use list::{Gaps, List, Marks};

@@ -1,10 +1,9 @@
 -- What soundness says of a pair, and how it is put together again. Assumes nothing.
 use mathlib.Core.Path.{◌≡◌, sym, subst}
 use mathlib.Core.Bool.{Bool, true, false, cond, ◌&&◌}
-use Prim.Native.Nat.{◌-◌, ◌≤◌}
+use Prim.Native.Nat.{◌≤◌}
 use lib.Dec.{T, leb, leb→le, le→leb}
 use lib.ListN.{length}
-use lib.Ieee.{le}
 use Rattle.ranges.specs.Settings.{Settings}
 use Rattle.ranges.specs.Limits.{dah_min, dah_max}
 use Rattle.ranges.specs.Interval.{In, within}
@@ -48,12 +47,14 @@ module _ (k : Settings) (p : Pair) where
       let a = both (plus_zero p.lo) (plus_zero p.hi && leb (length p.init) 4) (unready e t) in
       leb→le (length p.init) 4 (both (plus_zero p.hi) (leb (length p.init) 4) a.1).1
 
-  pub ready_sound : p.ready ≡ true → In k.dit_min k.dit_max p.lo → In dah_min dah_max p.hi → T (all_durations p.init) → T (pair_sound k p)
+  pub ready_sound : p.ready ≡ true → In k.dit_min k.dit_max p.lo → In dah_min dah_max p.hi → T (all_durations p.init)
+      → T (pair_sound k p)
   ready_sound e i j m =
       join (state p.ready) (all_durations p.init)
       (subst (λ (r : Bool). T (state r)) (sym e) (join (within k.dit_min k.dit_max p.lo) (within dah_min dah_max p.hi) (outside k.dit_min k.dit_max p.lo i) (outside dah_min dah_max p.hi j))) m
 
-  pub unready_sound : p.ready ≡ false → T (plus_zero p.lo) → T (plus_zero p.hi) → length p.init ≤ 4 → T (all_durations p.init) → T (pair_sound k p)
+  pub unready_sound : p.ready ≡ false → T (plus_zero p.lo) → T (plus_zero p.hi) → length p.init ≤ 4
+      → T (all_durations p.init) → T (pair_sound k p)
   unready_sound e i j h m =
       join (state p.ready) (all_durations p.init)
       (subst (λ (r : Bool). T (state r)) (sym e) (join (plus_zero p.lo) (plus_zero p.hi && leb (length p.init) 4) i (join (plus_zero p.hi) (leb (length p.init) 4) j (le→leb (length p.init) 4 h)))) m

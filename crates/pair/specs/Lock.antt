@@ -1,5 +1,5 @@
 -- How marks become two centroids, and how a centroid learns (document 01, "ClusterPair and SpeedTracker"; the Rust's `ClusterPair`). Definitions only.
-use Rattle.std.specs.Prelude.{Bool, true, false, not, cond, ◌&&◌, List, [], ◌∷◌, ◌++◌, ◌-◌, eqb, length, take, drop, Float}
+use Rattle.std.specs.Prelude.{Bool, true, false, not, cond, ◌&&◌, List, [], ◌∷◌, ◌++◌, eqb, length, take, drop, Float}
 use Rattle.std.proofs.Math.Option.{Option, none, some}
 use Rattle.std.specs.Float.{binary32}
 use Rattle.std.specs.Float.Ieee.{mul, div, lt, le}

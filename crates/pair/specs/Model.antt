@@ -1,5 +1,5 @@
 -- What a pair means: a list in place of array and count. Definitions only.
-use Rattle.std.specs.Prelude.{Bool, true, false, List, ℕ, ◌-◌, take, Float}
+use Rattle.std.specs.Prelude.{Bool, List, ℕ, take, Float, Option as Given, Some, None}
 use Rattle.std.proofs.Math.Option.{Option, none, some}
 use Rattle.pair.specs.declared.ClusterPair.{ClusterPair}
 
@@ -15,10 +15,10 @@ pub record Pair : Type 0 where
 
 -- ---- the view of the program's structs
 
--- a flag and the number that it says is there
-abbrev pub held : Bool → Float → Option Float
-held true x = some x
-held false x = none
+-- what a program's option holds
+abbrev pub held : {A : Type 0} → Given A → Option A
+held (Some x) = some x
+held None = none
 
 abbrev pub view_pair : ClusterPair → Pair
 view_pair p = record {
@@ -34,45 +34,13 @@ view_pair p = record {
 -- ---- one part changed
 
 abbrev pub with_init : Pair → List Float → Pair
-with_init p l = record {
-  lo = p.lo;
-  hi = p.hi;
-  init = l;
-  ready = p.ready;
-  confirmed = p.confirmed;
-  placeholder_is_lo = p.placeholder_is_lo;
-  lo_n = p.lo_n;
-}
+with_init p l = record p { init = l }
 
 abbrev pub with_centroids : Pair → Float → Float → Pair
-with_centroids p lo hi = record {
-  lo = lo;
-  hi = hi;
-  init = p.init;
-  ready = p.ready;
-  confirmed = p.confirmed;
-  placeholder_is_lo = p.placeholder_is_lo;
-  lo_n = p.lo_n;
-}
+with_centroids p lo hi = record p { lo = lo; hi = hi }
 
 abbrev pub with_confirmed : Pair → Bool → Pair
-with_confirmed p b = record {
-  lo = p.lo;
-  hi = p.hi;
-  init = p.init;
-  ready = p.ready;
-  confirmed = b;
-  placeholder_is_lo = p.placeholder_is_lo;
-  lo_n = p.lo_n;
-}
+with_confirmed p b = record p { confirmed = b }
 
 abbrev pub with_placeholder : Pair → Bool → Pair
-with_placeholder p b = record {
-  lo = p.lo;
-  hi = p.hi;
-  init = p.init;
-  ready = p.ready;
-  confirmed = p.confirmed;
-  placeholder_is_lo = b;
-  lo_n = p.lo_n;
-}
+with_placeholder p b = record p { placeholder_is_lo = b }

@@ -5,7 +5,7 @@ use Rattle.std.specs.Float.Ieee.{mul, div, lt}
 use Rattle.std.specs.Float.Ieee.Scale.{finite}
 use Rattle.ranges.specs.Settings.{Settings}
 use Rattle.ranges.specs.Interval.{within}
-use Rattle.marks.specs.Constants.{one, three}
+use Rattle.marks.specs.Constants.{three}
 use Rattle.pair.specs.Model.{Pair, with_centroids, with_confirmed, with_placeholder}
 use Rattle.marks.specs.Band.{band, agree}
 

@@ -3,7 +3,8 @@
 
 pub mod inner;
 
-// Two centroids, and the start marks while there are none.
+// Two centroids, and the start marks while there are none: an array beside its count, and flags, as in the plain form
+// of it that hosts hold by value (document 01).
 #[repr(C)]
 #[derive(Clone, Copy)]
 pub struct ClusterPair {

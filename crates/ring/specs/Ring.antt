@@ -9,7 +9,7 @@ use Rattle.ring.specs.declared.RingEntry.{RingEntry}
 use Rattle.pair.specs.Model.{Pair}
 use Rattle.marks.specs.Lists.{all, duration}
 use Rattle.ranges.specs.Mean.{mean64}
-use Rattle.marks.specs.Constants.{one, dah_gap_frac, cv_max, off_frac}
+use Rattle.marks.specs.Constants.{dah_gap_frac, cv_max, off_frac}
 use Rattle.marks.specs.Sort.{sorted}
 use Rattle.pair.specs.Lock.{boundary}
 use Rattle.marks.specs.Band.{deviation}

@@ -1,47 +1,40 @@
 // The marks of a lock, sorted (document 01: "sort").
-ghost use Rattle.std.specs.Prelude.{◌≡◌, ◌+◌, ◌<◌, ◌≤◌, take, length};
+ghost use Rattle.std.specs.Prelude.{◌≡◌, [], ◌∷◌, ◌++◌};
 ghost use Rattle.marks.specs.Sort.{lesser, greater, insert, sorted};
 
+// `f32::min` leaves open which of two equal numbers it gives.
 pub(crate) fn lesser(x: f32, y: f32) -> f32
     ensures { result ≡ lesser x y }
 {
     if y < x { y } else { x }
 }
 
+// `f32::max` leaves open which of two equal numbers it gives.
 pub(crate) fn greater(x: f32, y: f32) -> f32
     ensures { result ≡ greater x y }
 {
     if y < x { x } else { y }
 }
 
-// x put into the first n places of s, which are sorted.
-pub(crate) fn insert(s: &mut [f32; 12], n: usize, x: f32)
-    requires n_bound { n < 12 }
-    requires s_len { length s.old ≡ 12 }
-    ensures { (take (n + 1) s.new ≡ insert x (take n s.old)) × (length s.new ≡ 12) }
+// x put into s, which is sorted: the greatest of them has no place there, and is handed back.
+pub(crate) fn insert(s: &mut [f32], x: f32) -> f32
+    ensures { s.new ++ (result ∷ []) ≡ insert x s.old }
 {
     let mut carried = x;
-    let mut i: usize = 0;
-    while i < n {
-        let y = s[i];
-        s[i] = lesser(carried, y);
+    for place in s.iter_mut() {
+        let y = *place;
+        *place = lesser(carried, y);
         carried = greater(carried, y);
-        i += 1;
     }
-    s[n] = carried;
+    carried
 }
 
-// The first n places of v, sorted.
-pub fn sorted(v: [f32; 12], n: usize) -> [f32; 12]
-    requires { n ≤ 12 }
-    ensures { take n result ≡ sorted (take n v) }
+// Least first. The library's sorts want an order of all numbers, and `sorted` says what becomes of a NaN too.
+pub fn sort(s: &mut [f32])
+    ensures { s.new ≡ sorted s.old }
 {
-    let mut out = v;
-    let mut i: usize = 0;
-    while i < n {
-        let x = v[i];
-        insert(&mut out, i, x);
-        i += 1;
+    for i in 0..s.len() {
+        let x = s[i];
+        s[i] = insert(&mut s[..i], x);
     }
-    out
 }

@@ -1,11 +1,13 @@
 -- `marks::inner::band::banded` meets its contract. Assumes nothing.
-use Prim.Native.Nat.{◌-◌}
-use lib.ListN.{length}
-use Rattle.marks.proofs.Banding.{Banding}
+use Rattle.std.proofs.Common.{◌≡◌, ◌≤◌, length, take}
+use Rattle.ranges.specs.Settings.{standard}
+use Rattle.marks.specs.Band.{band}
 use Rattle.marks.proofs.inner.band.banded.Given as goal
 
-abbrev pub invariant-loop-i : goal.invariant-loop-i
-invariant-loop-i l = Banding l.lo l.gaps l.b l.i
-
-abbrev pub decreases-loop-i : goal.decreases-loop-i
-decreases-loop-i l = length l.gaps - l.i
+abbrev pub invariant-loop-g : goal.invariant-loop-g
+invariant-loop-g l =
+    record {
+      few : l.len ≤ l.g-index;
+      room : length l.at ≡ 12;
+      is : take l.len l.at ≡ band standard l.lo (take l.g-index l.gaps.at.now);
+    }

@@ -1,10 +1,7 @@
 -- `marks::inner::sort::insert` meets its contract. Assumes nothing.
-use Prim.Native.Nat.{◌-◌}
-use Rattle.marks.proofs.Sorting.{Inserting}
+use Rattle.std.proofs.Common.{◌≡◌, ◌++◌, take, drop}
+use Rattle.marks.specs.Sort.{insert}
 use Rattle.marks.proofs.inner.sort.insert.Given as goal
 
-abbrev pub invariant-loop-i : goal.invariant-loop-i
-invariant-loop-i l = Inserting l.initial.s l.s l.n l.i l.x l.carried
-
-abbrev pub decreases-loop-i : goal.decreases-loop-i
-decreases-loop-i l = l.n - l.i
+abbrev pub invariant-loop-place : goal.invariant-loop-place
+invariant-loop-place l = take l.place-index l.s ++ insert l.carried (drop l.place-index l.s) ≡ insert l.x l.initial.s

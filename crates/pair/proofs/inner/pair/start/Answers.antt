@@ -1,44 +1,20 @@
 -- `pair::inner::pair::start` meets its contract. Assumes nothing.
-use mathlib.Core.Path.{◌≡◌}
-use native.Mathlib.Omega.{arith}
-use lib.ListN.{length}
-use borrow.Author.Rules.{rules}
+use Rattle.std.proofs.Common.{◌≡◌, length, take, rules, arith, length-take}
 use Rattle.ranges.specs.Settings.{standard}
 use Rattle.pair.specs.Model.{view_pair}
-use Rattle.marks.proofs.Places.{put_end, as_many}
-use Rattle.pair.proofs.Starting.{fifth, fifth_in, started_locks, started_keeps}
+use Rattle.pair.proofs.Starting.{fifth, fifth_held, started_locks}
 use Rattle.pair.proofs.inner.pair.start.Goals as goal
 
-pub initialize-requires : goal.initialize-requires
-initialize-requires c =
-    let s = c.before.before in
-    let l : length s.args.p.init ≡ 12 = search rules in
-    record { le_n = (search rules, search rules); all_in = fifth_in s.args.p.init s.args.p.init_len s.args.v (omega arith) l s.requires.all_in s.requires.fact }
+pub invariant_of-initialize : goal.invariant_of-initialize
+invariant_of-initialize c =
+    let l : length c.args.p.init ≡ 12 = search rules in
+    let m = fifth_held _ _ _ c.if-n-eq4.true (omega arith) c.requires.held c.args.d.held in
+    record { held = m; few = simp length-take (omega arith) }
 
 pub returns-then-n-eq4 : goal.returns-then-n-eq4
 returns-then-n-eq4 c =
-    let s = c.before.before.before in
-    let i = s.args.p.init in
-    let n = s.args.p.init_len in
-    let l : length i ≡ 12 = search rules in
-    let g = as_many i n (omega arith) in
+    let l : length c.args.p.init ≡ 12 = search rules in
     let z = c.initialize.ensures.1 in
-    (started_locks standard (view_pair s.args.p) s.args.v _ _ (omega arith) (fifth i n s.args.v (omega arith) l) c.initialize.ensures.0, omega arith)
-
-pub bounds-q-n : goal.bounds-q-n
-bounds-q-n c =
-    let s = c.before in
-    let i = s.args.p.init in
-    let n = s.args.p.init_len in
-    let l : length i ≡ 12 = search rules in
-    let g = as_many i n (omega arith) in
-    omega arith
-
-pub returns : goal.returns
-returns c =
-    let s = c.before in
-    let i = s.args.p.init in
-    let n = s.args.p.init_len in
-    let l : length i ≡ 12 = search rules in
-    let g = as_many i n (omega arith) in
-    (started_keeps standard (view_pair s.args.p) s.args.v _ (omega arith) (put_end i n s.args.v (omega arith)), omega arith)
+    let e = fifth c.args.p.init c.args.p.init_len c.args.d.ms c.if-n-eq4.true (omega arith) in
+    let n : length (take c.args.p.init_len c.args.p.init) ≡ 4 = simp length-take (omega arith) in
+    (started_locks standard (view_pair c.args.p) _ _ _ n e c.initialize.ensures.0, omega arith)

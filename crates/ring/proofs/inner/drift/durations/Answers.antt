@@ -1,16 +1,14 @@
 -- `ring::inner::drift::durations` meets its contract. Assumes nothing.
-use mathlib.Core.Path.{refl}
-use native.Mathlib.Omega.{arith}
-use borrow.Author.Rules.{rules}
-use Rattle.ring.proofs.Ringing.{copy_begins, copy_turns, copy_ends}
-use Rattle.marks.proofs.Shifting.{unmapped}
+use Rattle.std.proofs.Common.{false, rules, tests}
+use Rattle.std.specs.Float.{nan}
+use Rattle.ring.specs.declared.RingEntry.{RingEntry}
+use Rattle.ring.proofs.Ringing.{mapped}
 use Rattle.ring.proofs.inner.drift.durations.Goals as goal
 
-pub loop-i-init : goal.loop-i-init
-loop-i-init c = copy_begins _ _ (search (unmapped, rules)) refl
-
-pub loop-i-preserved : goal.loop-i-preserved
-loop-i-preserved c = copy_turns _ _ _ _ (omega arith) c.loop-i.invariant
+-- what is read past the end of a ring, as nothing is
+abbrev none : RingEntry
+none = record { dur_ms = nan; assigned_dit = false; pre_lo = nan; pre_hi = nan }
 
 pub returns : goal.returns
-returns c = copy_ends _ _ _ (omega arith) c.loop-i.invariant
+returns c =
+    mapped (λ (e : RingEntry). e.dur_ms) none _ _ _ c.map.ensures.items c.told-ring (λ x y p q k. search (rules, tests))

@@ -1,8 +1,0 @@
--- `marks::inner::sort::greater` meets its contract. Assumes nothing.
-use Rattle.marks.proofs.inner.sort.greater.Goals as goal
-
-pub returns-then-y-x : goal.returns-then-y-x
-returns-then-y-x c = rw c.if-y-x.true
-
-pub returns-else-y-x : goal.returns-else-y-x
-returns-else-y-x c = rw c.if-y-x.false
