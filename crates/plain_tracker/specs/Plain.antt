@@ -1,7 +1,28 @@
--- What the plain form of a tracker means: a flag is a number, 1 yes and 0 no, and what lies beyond a count, or is marked absent, is left empty. Definitions only.
-use Rattle.std.specs.Prelude.{Bool, false, cond, ◌&&◌, List, [], ◌∷◌, map, ℕ, zero, suc, eqb, leb, take, Float}
+-- What the plain form of a tracker means: a flag is a number, 1 yes and 0 no, and what lies beyond a count, or is
+-- marked absent, is left empty. Definitions only.
+use Rattle.std.specs.Prelude.{
+  Bool,
+  false,
+  cond,
+  ◌&&◌,
+  List,
+  [],
+  ◌∷◌,
+  map,
+  ℕ,
+  zero,
+  suc,
+  eqb,
+  leb,
+  take,
+  Float,
+  Option,
+  is_some,
+}
+use Rattle.std.specs.Bool.{then_some}
+use Rattle.std.specs.List.{list_all}
+use Rattle.std.specs.Option.{unwrap_or}
 use Rattle.ranges.specs.Limits.{nought}
-use Rattle.marks.specs.Lists.{all}
 use Rattle.pair.specs.declared.ClusterPair.{ClusterPair}
 use Rattle.ring.specs.declared.RingEntry.{RingEntry}
 use Rattle.tracker.specs.declared.SpeedTracker.{SpeedTracker}
@@ -34,14 +55,22 @@ carried f z (suc n) (x ∷ l) = f x ∷ carried f z n l
 abbrev pub first_of : ℕ → List Float → List Float
 first_of n l = carried (λ x. x) nought n l
 
--- what a host finds between two fields: n bytes of 0. A field `pad_X` stands in place of the padding after X; it is no part of a state, and is not looked at
+-- what a host finds between two fields: n bytes of 0. A field `pad_X` stands in place of the padding after X; it is no
+-- part of a state, and is not looked at
 abbrev pub zeros : ℕ → List ℕ
 zeros zero = []
 zeros (suc n) = 0 ∷ zeros n
 
--- a number where a flag says that there is one, else 0
-abbrev pub or_nought : Bool → Float → Float
-or_nought has x = cond has x nought
+-- a number where there is one, else 0
+abbrev pub or_nought : Option Float → Float
+or_nought x = unwrap_or x nought
+
+-- whether there is one, as a flag's number; and what is there where a flag's number says so
+abbrev pub has : {A : Type 0} → Option A → ℕ
+has x = as_number (is_some x)
+
+abbrev pub optional : {A : Type 0} → ℕ → A → Option A
+optional n x = then_some (as_flag n) x
 
 -- ---- the pair
 
@@ -104,28 +133,29 @@ abbrev pub is_entry : PlainEntry → Bool
 is_entry p = is_flag p.assigned_dit
 
 -- "Places beyond a count .. are no part of a state"
-unfoldable pub is_ring : PlainTracker → Bool
-is_ring p = all is_entry (take p.ring_len p.ring)
+abbrev pub is_ring : PlainTracker → Bool
+is_ring p = list_all is_entry (take p.ring_len p.ring)
 
--- ---- the tracker: "Places beyond a count and numbers marked absent are no part of a state", so they are left empty; on the way back they are read as they stand
+-- ---- the tracker: "Places beyond a count and numbers marked absent are no part of a state", so they are left empty;
+-- on the way back they are read as they stand
 
 abbrev pub plain_tracker : SpeedTracker → PlainTracker
 plain_tracker t = record {
   pair = plain_pair t.pair;
   ring = carried plain_entry blank_entry t.ring_len t.ring;
   ring_len = t.ring_len;
-  has_wpm = as_number t.has_wpm;
+  has_wpm = has t.wpm_ema;
   pad_has_wpm = zeros 3;
-  wpm_ema = or_nought t.has_wpm t.wpm_ema;
+  wpm_ema = or_nought t.wpm_ema;
   recent = first_of t.recent_len t.recent;
   pad_recent = zeros 4;
   recent_len = t.recent_len;
-  has_egap = as_number t.has_egap;
+  has_egap = has t.mu_egap_ms;
   pad_has_egap = zeros 3;
-  mu_egap_ms = or_nought t.has_egap t.mu_egap_ms;
-  has_hint = as_number t.has_hint;
+  mu_egap_ms = or_nought t.mu_egap_ms;
+  has_hint = has t.ratio_hint;
   pad_has_hint = zeros 3;
-  ratio_hint = or_nought t.has_hint t.ratio_hint;
+  ratio_hint = or_nought t.ratio_hint;
   regime = t.regime;
   badlock_recovered = as_number t.badlock_recovered;
   lo_uncorroborated = as_number t.lo_uncorroborated;
@@ -137,22 +167,25 @@ tracker_of p = record {
   pair = pair_of p.pair;
   ring = map entry_of p.ring;
   ring_len = p.ring_len;
-  has_wpm = as_flag p.has_wpm;
-  wpm_ema = p.wpm_ema;
+  wpm_ema = optional p.has_wpm p.wpm_ema;
   recent = p.recent;
   recent_len = p.recent_len;
-  has_egap = as_flag p.has_egap;
-  mu_egap_ms = p.mu_egap_ms;
-  has_hint = as_flag p.has_hint;
-  ratio_hint = p.ratio_hint;
+  mu_egap_ms = optional p.has_egap p.mu_egap_ms;
+  ratio_hint = optional p.has_hint p.ratio_hint;
   regime = p.regime;
   badlock_recovered = as_flag p.badlock_recovered;
   lo_uncorroborated = as_flag p.lo_uncorroborated;
 }
 
 abbrev pub are_flags : PlainTracker → Bool
-are_flags p = is_flag p.has_wpm && (is_flag p.has_egap && (is_flag p.has_hint && (is_flag p.badlock_recovered && is_flag p.lo_uncorroborated)))
+are_flags p =
+    is_flag p.has_wpm &&
+    (is_flag p.has_egap && (is_flag p.has_hint && (is_flag p.badlock_recovered && is_flag p.lo_uncorroborated)))
 
 -- whether a plain form is that of a tracker
 abbrev pub is_tracker : PlainTracker → Bool
 is_tracker p = is_pair p.pair && (are_flags p && is_ring p)
+
+-- refusal 1: "a state handed in is unsound", as a form that is no tracker's; then n
+abbrev pub form_then : PlainTracker → ℕ → ℕ
+form_then p n = cond (is_tracker p) n 1

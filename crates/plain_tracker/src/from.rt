@@ -1,9 +1,12 @@
-// From a plain form to its tracker. What lies beyond a count, or is marked absent, is no part of it, and is read as it stands.
-ghost use Rattle.std.specs.Prelude.{◌≡◌, map};
-ghost use Rattle.plain_tracker.specs.Plain.{as_flag, no_entry, pair_of, entry_of, tracker_of};
+// From a plain form to its tracker. What lies beyond a count is no part of it, and is read as it stands.
+ghost use Rattle.std.specs.Prelude.{◌≡◌, IfOk};
+ghost use Rattle.refusals.specs.Refusal.{refusal_of};
+ghost use Rattle.plain_tracker.specs.Plain.{as_flag, pair_of, entry_of, tracker_of, form_then};
 
+use crate::is::is_tracker;
 use crate::{PlainEntry, PlainPair, PlainTracker};
 use pair::ClusterPair;
+use refusals::Refusal;
 use ring::RingEntry;
 use tracker::SpeedTracker;
 
@@ -43,56 +46,38 @@ pub fn entry_of(p: PlainEntry) -> RingEntry
     }
 }
 
-// A place of the ring that holds nothing.
-pub(crate) fn no_entry() -> RingEntry
-    ensures { result ≡ no_entry }
-{
-    RingEntry {
-        dur_ms: 0.0,
-        assigned_dit: false,
-        pre_lo: 0.0,
-        pre_hi: 0.0,
-    }
-}
-
-// The ring.
-pub(crate) fn ring_of(p: PlainTracker) -> [RingEntry; 12]
-    ensures { result ≡ map entry_of p.ring }
-{
-    let z = no_entry();
-    let mut out = [z; 12];
-    let mut i: usize = 0;
-    while i < 12 {
-        let e = p.ring[i];
-        let q = entry_of(e);
-        out[i] = q;
-        i += 1;
-    }
-    out
-}
-
 // A tracker.
 pub fn tracker_of(p: PlainTracker) -> SpeedTracker
     ensures { result ≡ tracker_of p }
 {
+    let ring = p.ring.map(entry_of);
     let recent = p.recent;
-    let q = p.pair;
-    let pair = pair_of(q);
-    let ring = ring_of(p);
     SpeedTracker {
-        pair,
+        pair: pair_of(p.pair),
         ring,
         ring_len: p.ring_len,
-        has_wpm: flag_of(p.has_wpm),
-        wpm_ema: p.wpm_ema,
+        wpm_ema: flag_of(p.has_wpm).then_some(p.wpm_ema),
         recent,
         recent_len: p.recent_len,
-        has_egap: flag_of(p.has_egap),
-        mu_egap_ms: p.mu_egap_ms,
-        has_hint: flag_of(p.has_hint),
-        ratio_hint: p.ratio_hint,
+        mu_egap_ms: flag_of(p.has_egap).then_some(p.mu_egap_ms),
+        ratio_hint: flag_of(p.has_hint).then_some(p.ratio_hint),
         regime: p.regime,
         badlock_recovered: flag_of(p.badlock_recovered),
         lo_uncorroborated: flag_of(p.lo_uncorroborated),
+    }
+}
+
+// The tracker of a form, where the form is one's; else refusal 1.
+impl TryFrom<PlainTracker> for SpeedTracker {
+    type Error = Refusal;
+
+    ghost try_from_gives = { λ p r. (refusal_of r ≡ form_then p 0) × IfOk r (λ t. t ≡ tracker_of p) };
+
+    fn try_from(p: PlainTracker) -> Result<SpeedTracker, Refusal> {
+        if is_tracker(p) {
+            Ok(tracker_of(p))
+        } else {
+            Err(Refusal::UnsoundState)
+        }
     }
 }

@@ -1,8 +1,9 @@
-// A tracker with numbers in place of flags, as a host in C or Rust holds it, and the way there and back. A flag is 0 or 1.
-// What lies beyond a count, or is marked absent, is no part of the state: the way there leaves it empty.
+// A tracker with numbers in place of flags, as a host in C or Rust holds it, and the way there and back. A flag is 0 or
+// 1. What lies beyond a count, or is marked absent, is no part of the state: the way there leaves it empty.
 #![tactic(auto)]
 
 pub mod from;
+pub mod inner;
 pub mod is;
 pub mod to;
 
@@ -23,7 +24,7 @@ pub struct PlainPair {
 
 // One mark of the ring: the fields of `RingEntry`.
 #[repr(C)]
-#[derive(Clone, Copy)]
+#[derive(Clone, Copy, Default)]
 pub struct PlainEntry {
     pub dur_ms: f32,
     pub assigned_dit: u8,
@@ -32,7 +33,7 @@ pub struct PlainEntry {
     pub pre_hi: f32,
 }
 
-// A tracker: the fields of `SpeedTracker`.
+// A tracker: the fields of `SpeedTracker`, an optional number as a flag and a number.
 #[repr(C)]
 #[derive(Clone, Copy)]
 pub struct PlainTracker {

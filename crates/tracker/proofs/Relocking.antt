@@ -1,37 +1,80 @@
 -- A check for drift, by its tests. Assumes nothing.
-use Rattle.std.proofs.Common.{◌≡◌, ℕ, ◌≤◌, Bool, true, false, cond, not, ◌||◌, T, leb, List, length, take, sym, ap, ◌∙◌, subst, arith, leb→le, length-take, length-take-le, take_all}
-use lib.ListN.{length-map}
-use lib.Ieee.{Float}
+use Rattle.std.proofs.Common.{
+  ◌≡◌,
+  ℕ,
+  ◌≤◌,
+  Bool,
+  true,
+  false,
+  cond,
+  not,
+  ◌||◌,
+  T,
+  leb,
+  List,
+  length,
+  take,
+  sym,
+  ap,
+  ◌∙◌,
+  subst,
+  arith,
+  leb→le,
+  le→leb,
+  length-take-le,
+  take_all,
+}
+use Rattle.std.proofs.lemmas.Float.{T_from_false}
+use lib.Ieee.Bits.{is_true}
 use Rattle.ranges.specs.Settings.{Settings, standard}
 use Rattle.ranges.proofs.Compare.{passed}
 use Rattle.ring.specs.declared.RingEntry.{RingEntry}
 use Rattle.tracker.specs.declared.SpeedTracker.{SpeedTracker}
 use Rattle.tracker.specs.Model.{Tracker, view, with_pair}
 use Rattle.tracker.specs.Parts.{Full, Checkable}
-use Rattle.ring.specs.Ring.{ring_sound, durations, all_classed, uniform, drifts}
-use Rattle.tracker.specs.Steps.{fragment, drifted, recovered_by, checked, timed, bound, can_begin, bootstrapped, reseeded}
+use Rattle.ring.specs.Ring.{ring_sound, all_classed, uniform, drifts}
+use Rattle.tracker.specs.Steps.{
+  fragment,
+  drifted,
+  recovered_by,
+  checked,
+  timed,
+  bound,
+  can_begin,
+  bootstrapped,
+  reseeded,
+}
 use Rattle.pair.specs.Lock.{initialized}
-use Rattle.marks.proofs.Bounds.{both}
-use Rattle.ring.proofs.Ringing.{whole}
+use Rattle.pair.specs.Model.{Pair}
+use Rattle.marks.proofs.Bounds.{both, join}
 
 pub full_count : (l : List RingEntry) (n : ℕ) → length l ≡ 12 → n ≤ 12 → uniform (take n l) ≡ true → n ≡ 12
 full_count l n h k e =
-    let p = both (leb 12 (length (take n l))) (all_classed true (take n l) || all_classed false (take n l)) (passed e) in
+    let p =
+    both (leb 12 (length (take n l))) (all_classed true (take n l) || all_classed false (take n l)) (passed e) in
     let q = leb→le 12 (length (take n l)) p.0 in
     let w = length-take-le n l (omega arith) in
     omega arith
 
+-- a ring whose count is 12 is the whole array
+pub ring_whole : (t : SpeedTracker) → length t.ring ≡ 12 → t.ring_len ≡ 12 → (view t).ring ≡ t.ring
+ring_whole t h n = take_all t.ring_len t.ring (omega arith)
+
 pub full_of : (t : SpeedTracker) → length t.ring ≡ 12 → Checkable t → uniform (view t).ring ≡ true → Full t
 full_of t h v e =
     let n = full_count t.ring t.ring_len h v.counted.ring e in
-    record { count = n; ring = subst (λ (l : List RingEntry). T (ring_sound standard l)) (whole t.ring t.ring_len h n) v.drivable.ring }
+    record {
+      count = n;
+      ring = subst (λ (l : List RingEntry). T (ring_sound standard l)) (ring_whole t h n) v.drivable.ring;
+    }
 
 module _ (k : Settings) (m : Tracker) where
   pub checked_drifts : uniform m.ring ≡ true → drifts m.ring ≡ true → drifted k m ≡ checked k m
   unfolding checked
   checked_drifts u d = rw (u, d)
 
-  pub checked_recovers : uniform m.ring ≡ true → drifts m.ring ≡ false → fragment m ≡ true → recovered_by k m ≡ checked k m
+  pub checked_recovers : uniform m.ring ≡ true → drifts m.ring ≡ false → fragment m ≡ true
+      → recovered_by k m ≡ checked k m
   unfolding checked
   checked_recovers u d f = rw (u, d, f)
 
@@ -43,22 +86,18 @@ module _ (k : Settings) (m : Tracker) where
   unfolding checked
   checked_mixed u = rw u
 
-pub drifts_at : (t : SpeedTracker) (b v : Bool) → length t.ring ≡ 12 → Full t → b ≡ drifts t.ring → b ≡ v → drifts (view t).ring ≡ v
-drifts_at t b v h f e q = ap drifts (whole t.ring t.ring_len h f.count) ∙ sym e ∙ q
-
-pub ring_marks : (l : List RingEntry) (d : List Float) (n : ℕ) → length l ≡ 12 → n ≡ 12 → d ≡ durations l → take 12 d ≡ durations (take n l)
-ring_marks l d n h e q =
-    let g : length (durations l) ≡ 12 = length-map l (λ (e : RingEntry). e.dur_ms) ∙ h in
-    ap (take 12) q ∙ take_all 12 (durations l) (omega arith) ∙ ap durations (sym (whole l n h e))
-
-pub some_count : (l : List Float) (n : ℕ) → 1 ≤ length (take n l) → 1 ≤ n
-some_count l n h = omega (arith, length-take n l)
+pub drifts_at : (t : SpeedTracker) (b v : Bool) → length t.ring ≡ 12 → Full t → b ≡ drifts t.ring → b ≡ v
+    → drifts (view t).ring ≡ v
+drifts_at t b v h f e q = ap drifts (ring_whole t h f.count) ∙ sym e ∙ q
 
 -- ---- a finish
 module _ (k : Settings) (m : Tracker) where
-  pub begins : (r : Tracker) → can_begin m ≡ true → r ≡ timed k (bound k (with_pair m (initialized k m.pair.init))) → r ≡ bootstrapped k m
+  pub begins : (p : Pair) (u r : Tracker) → can_begin m ≡ true → p ≡ initialized k m.pair.init
+      → u ≡ bound k (with_pair m p) → r ≡ timed k u → r ≡ bootstrapped k m
   unfolding bootstrapped
-  begins r e q = q ∙ sym (ap (λ (b : Bool). cond b (timed k (bound k (with_pair m (initialized k m.pair.init)))) m) e)
+  begins p u r e P U R =
+      R ∙ ap (timed k) (U ∙ ap (λ (z : Pair). bound k (with_pair m z)) P)
+      ∙ sym (ap (λ (b : Bool). cond b (timed k (bound k (with_pair m (initialized k m.pair.init)))) m) e)
 
   pub begins_not : can_begin m ≡ false → m ≡ bootstrapped k m
   unfolding bootstrapped
@@ -72,10 +111,8 @@ module _ (k : Settings) (m : Tracker) where
   unfolding reseeded
   times_not e = sym (ap (λ (b : Bool). cond b (timed k m) m) e)
 
--- the start marks of a tracker that can begin
-pub begin_counts : (t : SpeedTracker) → length t.pair.init ≡ 12 → t.pair.init_len ≤ 12 → can_begin (view t) ≡ true → 1 ≤ t.pair.init_len
-begin_counts t h c e =
-    let p = both (not t.pair.ready) (leb 2 (length (take t.pair.init_len t.pair.init))) (passed e) in
-    let q = leb→le 2 (length (take t.pair.init_len t.pair.init)) p.1 in
-    let w = length-take-le t.pair.init_len t.pair.init (omega arith) in
-    omega arith
+-- an unready tracker with two start marks can begin
+pub begin_can : (t : SpeedTracker) → t.pair.ready ≡ false → 2 ≤ length (view t).pair.init → can_begin (view t) ≡ true
+begin_can t e h =
+    let n = length (view t).pair.init in
+    is_true (can_begin (view t)) (join (not t.pair.ready) (leb 2 n) (T_from_false t.pair.ready e) (le→leb 2 n h))

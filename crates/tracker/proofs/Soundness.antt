@@ -1,6 +1,5 @@
 -- What soundness says, part by part, and how it is put together again. Assumes nothing.
-use Rattle.std.proofs.Common.{◌≡◌, ◌-◌, Bool, true, ◌&&◌, T, leb, sym, subst, le→leb, leb→le}
-use lib.Ieee.{le}
+use Rattle.std.proofs.Common.{◌≡◌, Bool, true, ◌&&◌, T, leb, sym, subst, le→leb, leb→le}
 use lib.Ieee.Bits.{is_true}
 use Rattle.ranges.specs.Settings.{Settings}
 use Rattle.ranges.proofs.Compare.{passed}
@@ -50,7 +49,8 @@ module _ (k : Settings) (m : Tracker) where
   proper_of f =
       join (pair_sound k m.pair) e2 f.pair
       (join (ring_sound k m.ring) e3 f.ring
-      (join (all_durations m.recent) e4 f.recent (join (positive_or m.wpm) e5 f.wpm (join (positive_or m.egap) (hint_sound k m.hint) f.egap f.hint))))
+      (join (all_durations m.recent) e4 f.recent
+      (join (positive_or m.wpm) e5 f.wpm (join (positive_or m.egap) (hint_sound k m.hint) f.egap f.hint))))
 
 -- ---- and its counts
 pub counted_is : (t : SpeedTracker) → counted t ≡ true → Counted t

@@ -7,12 +7,59 @@ use Rattle.ranges.specs.Mean.{mean_of}
 use Rattle.tracker.specs.Model.{Tracker, with_pair, with_recent}
 use Rattle.pair.specs.Model.{Pair}
 use Rattle.marks.specs.Lists.{pushed, duration}
-use Rattle.pair.specs.Lock.{initialized, constrained, bimodal, unimodal, as_dahs, as_dits, locked, learnt, started, observed, anchors_dit, anchors_dah, boundary}
+use Rattle.pair.specs.Lock.{
+  initialized,
+  constrained,
+  bimodal,
+  unimodal,
+  as_dahs,
+  as_dits,
+  locked,
+  learnt,
+  started,
+  observed,
+  anchors_dit,
+  anchors_dah,
+  boundary,
+}
 use Rattle.marks.specs.Sort.{sorted, parts}
-use Rattle.tracker.specs.Steps.{timed, bound, set_hint, on_gap, can_begin, bootstrapped, seeded, reseeded, settled, resolved, relocked, on_mark, fragment, drifted, recovered_by, checked, rung, followed, opened}
+use Rattle.tracker.specs.Steps.{
+  timed,
+  bound,
+  set_hint,
+  on_gap,
+  can_begin,
+  bootstrapped,
+  seeded,
+  reseeded,
+  settled,
+  resolved,
+  relocked,
+  on_mark,
+  fragment,
+  drifted,
+  recovered_by,
+  checked,
+  rung,
+  followed,
+  opened,
+}
 use Rattle.pair.specs.Readings.{turned, gaps_say_dahs}
 use Rattle.ring.specs.Ring.{durations, uniform, drifts, entry}
-use Rattle.tracker.proofs.Keeping.{by_cond, on_false, hint_sane, begin_sane, seed_up, reseed_sane, settled_sane, resolve_sane, on_true, Sane, mark_sane, gap_sane}
+use Rattle.tracker.proofs.Keeping.{
+  by_cond,
+  on_false,
+  hint_sane,
+  begin_sane,
+  seed_up,
+  reseed_sane,
+  settled_sane,
+  resolve_sane,
+  on_true,
+  Sane,
+  mark_sane,
+  gap_sane,
+}
 
 -- the calls, with what they are given
 pub data Call : Type 0 where
@@ -65,11 +112,14 @@ module _ (k : Settings) where
   begun_ready : (m : Tracker) → Ready m → Ready (bootstrapped k m)
   unfolding bootstrapped
   begun_ready m e =
-      on_false Ready (can_begin m) (timed k (bound k (with_pair m (initialized k m.pair.init)))) m (ap (λ (b : Bool). not b && leb 2 (length m.pair.init)) e) e
+      on_false Ready (can_begin m) (timed k (bound k (with_pair m (initialized k m.pair.init)))) m
+      (ap (λ (b : Bool). not b && leb 2 (length m.pair.init)) e) e
 
   resolved_ready : (m : Tracker) (l : List Float) → Ready m → Ready (resolved k m l)
   unfolding resolved
-  resolved_ready m l e = by_cond Ready (gaps_say_dahs k m.pair l) (timed k (bound k (with_pair m (turned m.pair)))) m (λ x. bound_ready (with_pair m (turned m.pair)) e) (λ x. e)
+  resolved_ready m l e =
+      by_cond Ready (gaps_say_dahs k m.pair l) (timed k (bound k (with_pair m (turned m.pair)))) m
+      (λ x. bound_ready (with_pair m (turned m.pair)) e) (λ x. e)
 
   gap_ready : (m : Tracker) (d : Float) → Ready m → Ready (on_gap k m d)
   unfolding on_gap
@@ -86,12 +136,15 @@ module _ (k : Settings) where
   unfolding locked
   initialized_ready l =
       let s = sorted l in
-      by_cond Is (parts s) (bimodal s) (unimodal k (mean_of s)) (λ e. refl) (λ e. by_cond Is (lt k.dit_max (mean_of s)) (as_dahs (mean_of s)) (as_dits (mean_of s)) (λ e. refl) (λ e. refl))
+      by_cond Is (parts s) (bimodal s) (unimodal k (mean_of s)) (λ e. refl)
+      (λ e. by_cond Is (lt k.dit_max (mean_of s)) (as_dahs (mean_of s)) (as_dits (mean_of s)) (λ e. refl)
+      (λ e. refl))
 
   learnt_ready : (p : Pair) (v : Float) → Is p → Is (learnt k p v)
   unfolding learnt
   learnt_ready p v e =
-      by_cond Is (anchors_dit p v) _ _ (λ x. e) (λ x. by_cond Is (anchors_dah p v) _ _ (λ y. e) (λ y. by_cond Is (lt v (boundary p)) _ _ (λ z. e) (λ z. e)))
+      by_cond Is (anchors_dit p v) _ _ (λ x. e)
+      (λ x. by_cond Is (anchors_dah p v) _ _ (λ y. e) (λ y. by_cond Is (lt v (boundary p)) _ _ (λ z. e) (λ z. e)))
 
   relocked_ready : (m : Tracker) (l : List Float) → Ready (relocked k m l)
   relocked_ready m l = bound_ready (with_pair m (initialized k l)) (initialized_ready l)
@@ -100,7 +153,8 @@ module _ (k : Settings) where
   unfolding checked
   checked_ready m e =
       by_cond Ready (uniform m.ring) _ m
-      (λ x. by_cond Ready (drifts m.ring) (drifted k m) _ (λ y. relocked_ready m m.recent) (λ y. by_cond Ready (fragment m) (recovered_by k m) m (λ z. relocked_ready m (durations m.ring)) (λ z. e)))
+      (λ x. by_cond Ready (drifts m.ring) (drifted k m) _ (λ y. relocked_ready m m.recent)
+      (λ y. by_cond Ready (fragment m) (recovered_by k m) m (λ z. relocked_ready m (durations m.ring)) (λ z. e)))
       (λ x. e)
 
   followed_ready : (p : Pair) (m : Tracker) (d : Float) → Ready m → Ready (followed k p m d)
@@ -113,7 +167,8 @@ module _ (k : Settings) where
   unfolding on_mark
   mark_ready m d e =
       let u = with_pair (with_recent m (pushed 5 m.recent d)) (observed k m.pair d) in
-      on_true Ready m.pair.ready (followed k m.pair u d) (opened k u) e (followed_ready m.pair u d (observed_ready m.pair d e))
+      on_true Ready m.pair.ready (followed k m.pair u d) (opened k u) e
+      (followed_ready m.pair u d (observed_ready m.pair d e))
 
   -- whatever the tracker is else
   pub stays_ready : (c : Call) (m : Tracker) → Ready m → Ready (done k c m)

@@ -1,5 +1,5 @@
 -- What a tracker means: lists in place of arrays and counts, and numbers that may be absent. Definitions only.
-use Rattle.std.specs.Prelude.{ℕ, ◌-◌, Bool, List, take, Float}
+use Rattle.std.specs.Prelude.{ℕ, Bool, List, take, Float}
 use Rattle.std.proofs.Math.Option.{Option}
 use Rattle.ring.specs.declared.RingEntry.{RingEntry}
 use Rattle.tracker.specs.declared.SpeedTracker.{SpeedTracker}
@@ -17,15 +17,15 @@ pub record Tracker : Type 0 where
   pub recovered : Bool
   pub uncorroborated : Bool
 
--- "Places beyond a count and numbers marked absent are no part of a state"
+-- "Places beyond a count .. are no part of a state"
 abbrev pub view : SpeedTracker → Tracker
 view t = record {
   pair = view_pair t.pair;
   ring = take t.ring_len t.ring;
-  wpm = held t.has_wpm t.wpm_ema;
+  wpm = held t.wpm_ema;
   recent = take t.recent_len t.recent;
-  egap = held t.has_egap t.mu_egap_ms;
-  hint = held t.has_hint t.ratio_hint;
+  egap = held t.mu_egap_ms;
+  hint = held t.ratio_hint;
   regime = t.regime;
   recovered = t.badlock_recovered;
   uncorroborated = t.lo_uncorroborated;

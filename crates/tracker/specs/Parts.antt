@@ -1,10 +1,11 @@
 -- What the parts of the code say. Definitions only.
-use Rattle.std.specs.Prelude.{◌≡◌, ◌≤◌, Bool, true, false, T, length, replicate}
+use Rattle.std.specs.Prelude.{◌≡◌, ◌≤◌, false, T, length, replicate, Option as Given, Some, None}
 use Rattle.std.proofs.Math.Option.{Option, none, some}
 use Rattle.ranges.specs.Limits.{nought}
 use Rattle.ranges.specs.Settings.{standard}
 use Rattle.ring.specs.declared.RingEntry.{RingEntry}
 use Rattle.tracker.specs.declared.SpeedTracker.{SpeedTracker}
+use Rattle.tracker.specs.declared.sound_tracker.SoundTracker.{SoundTracker}
 use Rattle.tracker.specs.Model.{Tracker, view}
 use Rattle.ring.specs.Ring.{ring_sound}
 use Rattle.marks.specs.Lists.{all_durations}
@@ -30,10 +31,10 @@ pub record Checkable (t : SpeedTracker) : Type 0 where
   pub counted : Counted t
   pub drivable : Drivable (view t)
 
--- a tracker where there is one
-abbrev pub other : Bool → SpeedTracker → Option Tracker
-other true t = some (view t)
-other false t = none
+-- what a tracker means, where there is one
+abbrev pub other : Given SoundTracker → Option Tracker
+other (Some t) = some (view t.tracker)
+other None = none
 
 -- a fresh tracker, place by place
 abbrev pub blank_entry : RingEntry
@@ -41,36 +42,39 @@ blank_entry = record { dur_ms = nought; assigned_dit = false; pre_lo = nought; p
 
 abbrev pub blank : SpeedTracker
 blank = record {
-  pair = record { lo = nought; hi = nought; init = replicate 12 nought; init_len = 0; ready = false; confirmed = false; placeholder_is_lo = false; lo_n = 0 };
+  pair =
+      record {
+        lo = nought;
+        hi = nought;
+        init = replicate 12 nought;
+        init_len = 0;
+        ready = false;
+        confirmed = false;
+        placeholder_is_lo = false;
+        lo_n = 0;
+      };
   ring = replicate 12 blank_entry;
   ring_len = 0;
-  has_wpm = false;
-  wpm_ema = nought;
+  wpm_ema = None;
   recent = replicate 5 nought;
   recent_len = 0;
-  has_egap = false;
-  mu_egap_ms = nought;
-  has_hint = false;
-  ratio_hint = nought;
+  mu_egap_ms = None;
+  ratio_hint = None;
   regime = 0;
   badlock_recovered = false;
   lo_uncorroborated = false;
 }
 
--- a tracker with the flag of a recovery cleared: each other field is as it was, with places beyond a count and absent
--- numbers
+-- a tracker with the flag of a recovery cleared: each other field is as it was, with places beyond a count
 unfoldable pub unflagged : SpeedTracker → SpeedTracker
 unflagged t = record {
   pair = t.pair;
   ring = t.ring;
   ring_len = t.ring_len;
-  has_wpm = t.has_wpm;
   wpm_ema = t.wpm_ema;
   recent = t.recent;
   recent_len = t.recent_len;
-  has_egap = t.has_egap;
   mu_egap_ms = t.mu_egap_ms;
-  has_hint = t.has_hint;
   ratio_hint = t.ratio_hint;
   regime = t.regime;
   badlock_recovered = false;

@@ -1,5 +1,5 @@
 -- What makes a tracker sound (document 01, refusal 1). Definitions only.
-use Rattle.std.specs.Prelude.{Bool, true, not, ◌&&◌, nat_le, Float}
+use Rattle.std.specs.Prelude.{Bool, true, ◌&&◌, nat_le, Float}
 use Rattle.std.proofs.Math.Option.{Option, none, some}
 use Rattle.std.specs.Float.Ieee.Positive.{positive}
 use Rattle.ranges.specs.Settings.{Settings}

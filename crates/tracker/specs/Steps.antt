@@ -1,5 +1,23 @@
--- What the calls of a tracker do (document 01, "ClusterPair and SpeedTracker"; the Rust's `SpeedTracker`). Definitions only.
-use Rattle.std.specs.Prelude.{◌+◌, ◌%◌, ◌^◌, Bool, true, false, cond, not, ◌&&◌, List, [], ◌∷◌, length, ◌==◌, nat_le, Float}
+-- What the calls of a tracker do (document 01, "ClusterPair and SpeedTracker"; the Rust's `SpeedTracker`). Definitions
+-- only.
+use Rattle.std.specs.Prelude.{
+  ◌+◌,
+  ◌%◌,
+  ◌^◌,
+  Bool,
+  true,
+  false,
+  cond,
+  not,
+  ◌&&◌,
+  List,
+  [],
+  ◌∷◌,
+  length,
+  ◌==◌,
+  nat_le,
+  Float,
+}
 use Rattle.std.proofs.Math.Option.{Option, none, some}
 use Rattle.std.specs.Float.{binary32}
 use Rattle.std.specs.Float.Ieee.{neg, sub, mul, div, lt}
@@ -8,11 +26,22 @@ use Rattle.order.specs.Order.{clamp}
 use Rattle.ranges.specs.Settings.{Settings}
 use Rattle.ranges.specs.Limits.{nought, half, bias_cap, paris, speed_weight}
 use Rattle.ranges.specs.Average.{average}
-use Rattle.marks.specs.Constants.{one, two}
+use Rattle.marks.specs.Constants.{two}
 use Rattle.ring.specs.declared.RingEntry.{RingEntry}
 use Rattle.pair.specs.Model.{Pair}
-use Rattle.tracker.specs.Model.{Tracker, with_pair, with_ring, with_wpm, with_recent, with_egap, with_hint, with_regime, with_recovered, with_uncorroborated}
-use Rattle.marks.specs.Lists.{pushed, all}
+use Rattle.tracker.specs.Model.{
+  Tracker,
+  with_pair,
+  with_ring,
+  with_wpm,
+  with_recent,
+  with_egap,
+  with_hint,
+  with_regime,
+  with_recovered,
+  with_uncorroborated,
+}
+use Rattle.marks.specs.Lists.{pushed}
 use Rattle.pair.specs.Lock.{initialized, constrained, observed}
 use Rattle.pair.specs.Readings.{seed_pair, turned, gaps_say_dahs, other_pair, has_other}
 use Rattle.ring.specs.Ring.{durations, all_classed, uniform, drifts, gap_says_dahs, entry}
@@ -20,7 +49,16 @@ use Rattle.ring.specs.Ring.{durations, all_classed, uniform, drifts, gap_says_da
 -- a fresh tracker (`new`)
 abbrev pub fresh : Tracker
 fresh = record {
-  pair = record { lo = nought; hi = nought; init = []; ready = false; confirmed = false; placeholder_is_lo = false; lo_n = 0 };
+  pair =
+      record {
+        lo = nought;
+        hi = nought;
+        init = [];
+        ready = false;
+        confirmed = false;
+        placeholder_is_lo = false;
+        lo_n = 0;
+      };
   ring = [];
   wpm = none;
   recent = [];
@@ -64,7 +102,8 @@ averaged (some w) raw = average binary32 speed_weight w raw
 abbrev pub bound : Settings → Tracker → Tracker
 bound k t = with_pair t (constrained k t.hint t.pair)
 
--- a new lock from marks: the ring and the gap centroid begin anew, and the regime count goes up by one and wraps; the speed average, the recent marks and the hint stay
+-- a new lock from marks: the ring and the gap centroid begin anew, and the regime count goes up by one and wraps; the
+-- speed average, the recent marks and the hint stay
 abbrev pub relocked : Settings → Tracker → List Float → Tracker
 relocked k t marks =
     let u = bound k (with_pair t (initialized k marks)) in

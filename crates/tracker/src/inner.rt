@@ -1,4 +1,4 @@
-// What the calls do, for states that are sound: each function asks what it needs.
+// What the calls do, for sound trackers: each function asks what else it needs.
 pub mod begin;
 pub mod door;
 pub mod drift;

@@ -1,4 +1,5 @@
-// When the marks have drifted, or the lock rests on a fragment (the first half of the Rust's `check_drift`).
+// A lock on a fragment: twelve dahs, a dit that rests on one start mark or on a seed, and no gap centroid that says dahs
+// (the second test of the Rust's `check_drift`).
 ghost use Rattle.std.specs.Prelude.{◌≡◌, false};
 ghost use Rattle.tracker.specs.Model.{view};
 ghost use Rattle.tracker.specs.Parts.{Full};
@@ -12,11 +13,5 @@ pub(crate) fn fragment(t: SpeedTracker) -> bool
     requires { Full t }
     ensures { result ≡ fragment (view t) }
 {
-    let ring = t.ring;
-    if all_classed(false, ring) {
-        if t.lo_uncorroborated {
-            return !gap_says_dahs(t.has_egap, t.mu_egap_ms, ring);
-        }
-    }
-    false
+    all_classed(false, &t.ring) && t.lo_uncorroborated && !gap_says_dahs(t.mu_egap_ms, &t.ring)
 }

@@ -1,95 +1,74 @@
 // One mark (the Rust's `on_mark`).
-ghost use Rattle.std.specs.Prelude.{◌≡◌, not, ◌&&◌, T};
+ghost use Rattle.std.specs.Prelude.{◌≡◌};
 ghost use Rattle.ranges.specs.Settings.{standard};
 ghost use Rattle.tracker.specs.Model.{view};
 ghost use Rattle.tracker.specs.Parts.{Counted};
-ghost use Rattle.marks.specs.Lists.{duration};
-ghost use Rattle.tracker.specs.Sound.{sound};
 ghost use Rattle.tracker.specs.Steps.{opened, on_mark};
 
-use crate::SpeedTracker;
 use crate::inner::relock::check;
 use crate::inner::speed::{averaged, bound, speed, spoken};
-use marks::inner::places::push_recent;
+use crate::{SoundTracker, SpeedTracker};
+use marks::List;
 use pair::inner::pair::{constrain, learn, start};
+use ranges::Duration;
 use ring::inner::drift::uniform;
 use ring::inner::push::entry;
-
-// a, and not b.
-pub(crate) fn still(a: bool, b: bool) -> bool
-    ensures { result ≡ (a && not b) }
-{
-    if a { !b } else { false }
-}
 
 // A tracker that was not ready has kept a mark: where it locked, constraints and speed.
 pub(crate) fn open(u: SpeedTracker) -> SpeedTracker
     requires { Counted u }
     ensures { (view result ≡ opened standard (view u)) × Counted result }
 {
-    let p = u.pair;
-    if p.ready {
-        let mut v = u;
-        v.lo_uncorroborated = p.lo_n == 1;
-        let w = bound(v);
-        return spoken(w);
+    if !u.pair.ready {
+        return u;
     }
-    u
+    let mut v = u;
+    v.lo_uncorroborated = u.pair.lo_n == 1;
+    spoken(bound(v))
 }
 
 // One mark: one copy of the tracker changes.
-pub(crate) fn marked(t: SpeedTracker, d: f32) -> SpeedTracker
-    requires t { T (sound standard t) }
-    requires t_2 { T (duration d) }
-    ensures { (view result ≡ on_mark standard (view t) d) × Counted result }
+pub(crate) fn marked(s: SoundTracker, d: Duration) -> SpeedTracker
+    ensures { (view result ≡ on_mark standard (view s.tracker) d.ms) × Counted result }
 {
-    let p = t.pair;
-    let old = t.recent;
-    let r = push_recent(old, t.recent_len, d);
-    let recent = r.at;
+    let t = s.tracker;
+    let at = t.recent;
+    let last = List {
+        at,
+        len: t.recent_len,
+    };
+    let recent = last.push(d.ms);
+    let at = recent.at;
     let mut u = t;
-    u.recent = recent;
-    u.recent_len = r.n;
-    if !p.ready {
-        let q = start(p, d);
-        u.pair = q;
+    u.recent = at;
+    u.recent_len = recent.len;
+    if !t.pair.ready {
+        u.pair = start(t.pair, d);
         return open(u);
     }
-    let l = learn(p, d);
-    let q = constrain(l, t.has_hint, t.ratio_hint);
+    let q = constrain(learn(t.pair, d.ms), t.ratio_hint);
     u.pair = q;
-    let e = entry(p, q, d);
-    u.lo_uncorroborated = still(t.lo_uncorroborated, e.assigned_dit);
-    let n = u.ring_len;
-    if n < 12 {
-        u.ring[n] = e;
-        u.ring_len = n + 1;
+    let e = entry(t.pair, q, d.ms);
+    u.lo_uncorroborated = t.lo_uncorroborated && !e.assigned_dit;
+    if t.ring_len < 12 {
+        u.ring[t.ring_len] = e;
+        u.ring_len = t.ring_len + 1;
         return spoken(check(u));
     }
-    let mut i: usize = 0;
-    while i < 11 {
-        let j = i + 1;
-        let x = u.ring[j];
-        u.ring[i] = x;
-        i = j;
-    }
+    u.ring.rotate_left(1);
     u.ring[11] = e;
-    let ring = u.ring;
-    if uniform(ring, n) {
+    if uniform(&u.ring) {
         return spoken(check(u));
     }
-    let raw = speed(q.lo, t.has_egap, t.mu_egap_ms);
-    let w = averaged(t.has_wpm, t.wpm_ema, raw);
-    u.has_wpm = true;
-    u.wpm_ema = w;
+    u.wpm_ema = Some(averaged(t.wpm_ema, speed(q.lo, t.mu_egap_ms)));
     u
 }
 
 // One mark: a sound tracker learns d and stays sound.
-pub fn on_mark(t: SpeedTracker, d: f32) -> SpeedTracker
-    requires t { T (sound standard t) }
-    requires t_2 { T (duration d) }
-    ensures { (view result ≡ on_mark standard (view t) d) × T (sound standard result) }
+pub fn on_mark(t: SoundTracker, d: Duration) -> SoundTracker
+    ensures { view result.tracker ≡ on_mark standard (view t.tracker) d.ms }
 {
-    marked(t, d)
+    SoundTracker {
+        tracker: marked(t, d),
+    }
 }

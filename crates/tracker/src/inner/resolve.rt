@@ -1,37 +1,28 @@
 // Gaps that say that assumed dits are dahs (the Rust's `resolve_unimodal_bootstrap`).
-ghost use Rattle.std.specs.Prelude.{◌≡◌, ◌≤◌, T, length};
+ghost use Rattle.std.specs.Prelude.{◌≡◌, cond};
+ghost use Rattle.std.proofs.Math.Option.{none, some};
 ghost use Rattle.ranges.specs.Settings.{standard};
 ghost use Rattle.tracker.specs.Model.{view};
-ghost use Rattle.tracker.specs.Sound.{sound};
+ghost use Rattle.tracker.specs.Parts.{other};
 ghost use Rattle.pair.specs.Readings.{gaps_say_dahs, turned};
 ghost use Rattle.tracker.specs.Steps.{resolved};
 
-use crate::SpeedTracker;
+use crate::SoundTracker;
 use crate::inner::speed::{bound, timed};
+use marks::Gaps;
 use pair::inner::readings::{says_dahs, turned};
 
-// Whether assumed dits are to be read as dahs.
-pub fn can_resolve(t: SpeedTracker, gaps: &[f32]) -> bool
-    requires t { T (sound standard t) }
-    requires gaps_len_bound { length gaps.now ≤ 12 }
-    ensures { result ≡ gaps_say_dahs standard (view t).pair gaps.now }
-{
-    let p = t.pair;
-    says_dahs(p, gaps)
-}
-
 // Assumed dits are read as dahs, where the gaps say so.
-pub fn resolve_unimodal_bootstrap(t: SpeedTracker, gaps: &[f32]) -> SpeedTracker
-    requires t { T (sound standard t) }
-    requires gaps_len_bound { length gaps.now ≤ 12 }
-    ensures { (view result ≡ resolved standard (view t) gaps.now) × T (sound standard result) }
+pub fn resolve_unimodal_bootstrap(t: SoundTracker, gaps: Gaps) -> Option<SoundTracker>
+    ensures { other result ≡ cond (gaps_say_dahs standard (view t.tracker).pair gaps.entry.at.now)
+        (some (resolved standard (view t.tracker) gaps.entry.at.now)) none }
 {
-    if can_resolve(t, gaps) {
-        let p = t.pair;
-        let q = turned(p);
-        let mut u = t;
-        u.pair = q;
-        return timed(bound(u));
+    if !says_dahs(t.tracker.pair, gaps) {
+        return None;
     }
-    t
+    let mut u = t.tracker;
+    u.pair = turned(u.pair);
+    Some(SoundTracker {
+        tracker: timed(bound(u)),
+    })
 }

@@ -1,101 +1,71 @@
 // Trackers that a bank makes (the Rust's `from_marks` and `three_to_one_alternative`).
-ghost use Rattle.std.specs.Prelude.{◌≡◌, ◌<◌, ◌≤◌, true, false, T, length};
-ghost use Rattle.ranges.specs.Limits.{duration_min, duration_max};
-ghost use Rattle.ranges.specs.Interval.{AllIn};
+ghost use Rattle.std.specs.Prelude.{◌≡◌, ◌≤◌, length};
 ghost use Rattle.ranges.specs.Settings.{standard};
 ghost use Rattle.tracker.specs.Model.{view, with_pair};
 ghost use Rattle.tracker.specs.Parts.{other};
 ghost use Rattle.pair.specs.Lock.{initialized};
-ghost use Rattle.marks.specs.Lists.{duration};
-ghost use Rattle.tracker.specs.Sound.{sound};
 ghost use Rattle.tracker.specs.Steps.{fresh, bound, element_gap, element_gaps, from_marks, three_to_one};
 
-use crate::SpeedTracker;
+use crate::SoundTracker;
 use crate::inner::begin::fresh;
 use crate::inner::gaps::on_element_gap;
 use crate::inner::speed::{bound, dit_estimate, timed};
-use marks::inner::places::copied;
+use marks::Marks;
 use pair::inner::lock::initialize;
-use pair::inner::readings::{has_other, other_pair};
+use pair::inner::readings::other_pair;
+use ranges::Duration;
 
 // A fresh tracker with a lock from marks.
-pub(crate) fn locked(marks: &[f32]) -> SpeedTracker
-    requires in_bounds { (1 ≤ length marks.now) × (length marks.now ≤ 12) }
-    requires all_in { AllIn duration_min duration_max marks.now }
-    ensures { (view result ≡ bound standard (with_pair fresh (initialized standard marks.now))) × T (sound standard result) }
+pub(crate) fn locked(marks: Marks) -> SoundTracker
+    requires { 1 ≤ length marks.at.now }
+    ensures { view result.tracker ≡ bound standard (with_pair fresh (initialized standard marks.entry.at.now)) }
 {
-    let init = copied(marks);
-    let p = initialize(init, marks.len());
-    let mut t = fresh();
-    t.pair = p;
-    bound(t)
+    let mut t = fresh().tracker;
+    t.pair = initialize(marks);
+    SoundTracker { tracker: bound(t) }
 }
 
 // A gap below 2.0 dit estimates is an element gap.
-pub(crate) fn element_gap(t: SpeedTracker, g: f32) -> SpeedTracker
-    requires t { T (sound standard t) }
-    requires t_2 { T (duration g) }
-    ensures { (view result ≡ element_gap standard (view t) g) × T (sound standard result) }
+pub(crate) fn element_gap(t: SoundTracker, g: Duration) -> SoundTracker
+    ensures { view result.tracker ≡ element_gap standard (view t.tracker) g.ms }
 {
-    if g < 2.0 * dit_estimate(t) {
-        return on_element_gap(t, g);
+    if g.ms < 2.0 * dit_estimate(t.tracker) {
+        on_element_gap(t, g)
+    } else {
+        t
     }
-    t
 }
 
 // The same for each gap.
-pub(crate) fn element_gaps(t: SpeedTracker, gaps: &[f32]) -> SpeedTracker
-    requires t { T (sound standard t) }
-    requires all_in { AllIn duration_min duration_max gaps.now }
-    ensures { (view result ≡ element_gaps standard (view t) gaps.now) × T (sound standard result) }
+pub(crate) fn element_gaps(t: SoundTracker, gaps: Marks) -> SoundTracker
+    ensures { view result.tracker ≡ element_gaps standard (view t.tracker) gaps.entry.at.now }
 {
     let mut u = t;
-    let mut i: usize = 0;
-    while i < gaps.len() {
-        let g = gaps[i];
-        u = element_gap(u, g);
-        i += 1;
+    for g in gaps.at {
+        u = element_gap(u, Duration { ms: *g });
     }
     u
 }
 
 // A tracker from marks and the gaps between them.
-pub fn from_marks(marks: &[f32], gaps: &[f32]) -> SpeedTracker
-    requires in_bounds { (1 ≤ length marks.now) × (length marks.now ≤ 12) }
-    requires all_in { AllIn duration_min duration_max marks.now }
-    requires all_in_2 { AllIn duration_min duration_max gaps.now }
-    ensures { (view result ≡ from_marks standard marks.now gaps.now) × T (sound standard result) }
+pub fn from_marks(marks: Marks, gaps: Marks) -> SoundTracker
+    requires { 1 ≤ length marks.at.now }
+    ensures { view result.tracker ≡ from_marks standard marks.entry.at.now gaps.entry.at.now }
 {
-    let t = locked(marks);
-    let u = element_gaps(t, gaps);
-    timed(u)
-}
-
-// A tracker where there is one.
-#[derive(Clone, Copy)]
-pub struct Alternative {
-    pub is: bool,
-    pub tracker: SpeedTracker,
+    let t = element_gaps(locked(marks), gaps);
+    SoundTracker {
+        tracker: timed(t.tracker),
+    }
 }
 
 // The three-to-one reading of an unconfirmed lock.
-pub fn three_to_one_alternative(t: SpeedTracker) -> Alternative
-    requires { T (sound standard t) }
-    ensures { (other result.is result.tracker ≡ three_to_one standard (view t)) × T (sound standard result.tracker) }
+pub fn three_to_one_alternative(t: SoundTracker) -> Option<SoundTracker>
+    ensures { other result ≡ three_to_one standard (view t.tracker) }
 {
-    let p = t.pair;
-    if has_other(p) {
-        let q = other_pair(p);
-        let mut u = fresh();
-        u.pair = q;
-        let r = timed(bound(u));
-        return Alternative {
-            is: true,
-            tracker: r,
-        };
-    }
-    Alternative {
-        is: false,
-        tracker: t,
-    }
+    let pair = other_pair(t.tracker.pair)?;
+    let mut u = fresh().tracker;
+    u.pair = pair;
+    Some(SoundTracker {
+        tracker: timed(bound(u)),
+    })
 }

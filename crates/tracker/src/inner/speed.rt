@@ -21,28 +21,28 @@ pub(crate) fn bias(lo: f32, g: f32) -> f32
     clamp32(0.5 * (lo - g), -cap, cap)
 }
 
-// The dit lo, corrected by the gap centroid g where there is one.
-pub(crate) fn estimate(lo: f32, has_egap: bool, g: f32) -> f32
-    ensures { result ≡ estimate standard lo (held has_egap g) }
+// The dit lo, corrected by the gap centroid where there is one.
+pub(crate) fn estimate(lo: f32, egap: Option<f32>) -> f32
+    ensures { result ≡ estimate standard lo (held egap) }
 {
-    if has_egap {
-        return clamp32(lo - bias(lo, g), 20.0, 150.0);
+    match egap {
+        Some(g) => (lo - bias(lo, g)).clamp(20.0, 150.0),
+        None => lo,
     }
-    lo
 }
 
 // The dit estimate.
 pub fn dit_estimate(t: SpeedTracker) -> f32
     ensures { result ≡ dit_estimate standard (view t) }
 {
-    estimate(t.pair.lo, t.has_egap, t.mu_egap_ms)
+    estimate(t.pair.lo, t.mu_egap_ms)
 }
 
 // 1200 / dit estimate.
-pub(crate) fn speed(lo: f32, has_egap: bool, g: f32) -> f32
-    ensures { result ≡ div binary32 paris (estimate standard lo (held has_egap g)) }
+pub(crate) fn speed(lo: f32, egap: Option<f32>) -> f32
+    ensures { result ≡ div binary32 paris (estimate standard lo (held egap)) }
 {
-    1200.0 / estimate(lo, has_egap, g)
+    1200.0 / estimate(lo, egap)
 }
 
 // The speed average begins anew.
@@ -50,21 +50,19 @@ pub(crate) fn timed(t: SpeedTracker) -> SpeedTracker
     requires { Counted t }
     ensures { (view result ≡ timed standard (view t)) × Counted result }
 {
-    let w = speed(t.pair.lo, t.has_egap, t.mu_egap_ms);
     let mut u = t;
-    u.has_wpm = true;
-    u.wpm_ema = w;
+    u.wpm_ema = Some(speed(t.pair.lo, t.mu_egap_ms));
     u
 }
 
 // A first speed as it is, a later one averaged.
-pub(crate) fn averaged(has_wpm: bool, w: f32, raw: f32) -> f32
-    ensures { result ≡ averaged (held has_wpm w) raw }
+pub(crate) fn averaged(wpm: Option<f32>, raw: f32) -> f32
+    ensures { result ≡ averaged (held wpm) raw }
 {
-    if has_wpm {
-        return w + 0.1 * (raw - w);
+    match wpm {
+        Some(w) => w + 0.1 * (raw - w),
+        None => raw,
     }
-    raw
 }
 
 // The speed average takes the speed.
@@ -72,11 +70,9 @@ pub(crate) fn spoken(t: SpeedTracker) -> SpeedTracker
     requires { Counted t }
     ensures { (view result ≡ spoken standard (view t)) × Counted result }
 {
-    let raw = speed(t.pair.lo, t.has_egap, t.mu_egap_ms);
-    let w = averaged(t.has_wpm, t.wpm_ema, raw);
+    let raw = speed(t.pair.lo, t.mu_egap_ms);
     let mut u = t;
-    u.has_wpm = true;
-    u.wpm_ema = w;
+    u.wpm_ema = Some(averaged(t.wpm_ema, raw));
     u
 }
 
@@ -85,9 +81,7 @@ pub(crate) fn bound(t: SpeedTracker) -> SpeedTracker
     requires { Counted t }
     ensures { (view result ≡ bound standard (view t)) × Counted result }
 {
-    let p = t.pair;
-    let q = constrain(p, t.has_hint, t.ratio_hint);
     let mut u = t;
-    u.pair = q;
+    u.pair = constrain(t.pair, t.ratio_hint);
     u
 }

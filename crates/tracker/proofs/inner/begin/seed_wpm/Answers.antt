@@ -1,8 +1,8 @@
 -- `tracker::inner::begin::seed_wpm` meets its contract. Assumes nothing.
-use Rattle.std.proofs.Common.{true, [], ap, ◌∙◌}
-use mathlib.Core.Option.{none}
 use Rattle.ranges.proofs.Standard.{standard_good, standard_held}
 use Rattle.ranges.specs.Settings.{standard}
+use Rattle.std.proofs.Common.{true, [], ap, ◌∙◌}
+use mathlib.Core.Option.{none}
 use Rattle.pair.specs.Model.{Pair}
 use Rattle.tracker.specs.Model.{with_pair, with_ring, with_recent, with_egap, with_uncorroborated, view}
 use Rattle.tracker.specs.Steps.{timed, seeded}
@@ -11,9 +11,20 @@ use Rattle.tracker.proofs.Keeping.{seed_up}
 use Rattle.tracker.proofs.Stored.{sane_of, still}
 use Rattle.tracker.proofs.inner.begin.seed_wpm.Goals as goal
 
-pub returns : goal.returns
+pub invariant_of-result : goal.invariant_of-result
 unfolding seeded
-returns c =
-    let s = c.before.before.before.before in
-    let t = s.args.t in
-    still c.timed.result _ (c.timed.ensures.0 ∙ ap (λ (p : Pair). timed standard (with_uncorroborated (with_egap (with_recent (with_ring (with_pair (view t) p) []) []) none) true)) (c.seed_pair-q.ensures.0 ∙ ap seed_pair c.clamp32-dit.ensures), c.timed.ensures.1) (seed_up standard standard_good standard_held (view t) s.args.wpm (sane_of t _ s.well_formed.0.1.1 s.requires.t) s.requires.t_2).sane
+invariant_of-result c =
+    let t = c.args.t in
+    let m = view t.tracker in
+    record {
+      held =
+          still c.timed.result (seeded standard m c.args.wpm) (
+            c.timed.ensures.0 ∙ ap
+                (λ (p : Pair). timed standard
+                (with_uncorroborated (with_egap (with_recent (with_ring (with_pair m p) []) []) none) true))
+                (c.seed_pair-u.ensures.0 ∙ ap seed_pair c.clamp-dit.ensures.value),
+            c.timed.ensures.1,
+          )
+          (seed_up standard standard_good standard_held m c.args.wpm
+          (sane_of t _ c.well_formed.0.1.1) c.requires).sane;
+    }

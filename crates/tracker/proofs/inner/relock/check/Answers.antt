@@ -1,7 +1,6 @@
 -- `tracker::inner::relock::check` meets its contract. Assumes nothing.
 use Rattle.std.proofs.Common.{◌≡◌, length, sym, ◌∙◌, rules}
 use Rattle.ranges.specs.Settings.{standard}
-use Rattle.ring.specs.Ring.{drifts}
 use Rattle.tracker.specs.Model.{view}
 use Rattle.tracker.proofs.Relocking.{full_of, drifts_at, checked_drifts, checked_recovers, checked_stays, checked_mixed}
 use Rattle.marks.proofs.Shifting.{unmapped}
@@ -22,8 +21,11 @@ returns-then-drifts c =
     let t = s.args.t in
     let l : length t.ring ≡ 12 = search (unmapped, rules) in
     let u = sym c.uniform.ensures ∙ c.if-uniform.true in
-    let f = full_of t l s.requires u in
-    (c.drifted.ensures.0 ∙ checked_drifts standard (view t) u (drifts_at t _ _ l f c.drifts.ensures c.if-drifts.true), c.drifted.ensures.1)
+    let f = full_of t l s.requires u in (
+      c.drifted.ensures.0 ∙ checked_drifts standard (view t) u
+          (drifts_at t _ _ l f c.drifts.ensures c.if-drifts.true),
+      c.drifted.ensures.1,
+    )
 
 pub fragment-requires : goal.fragment-requires
 fragment-requires c =
@@ -49,8 +51,12 @@ returns-then-fragment c =
     let t = s.args.t in
     let l : length t.ring ≡ 12 = search (unmapped, rules) in
     let u = sym c.uniform.ensures ∙ c.if-uniform.true in
-    let f = full_of t l s.requires u in
-    (c.recovered.ensures.0 ∙ checked_recovers standard (view t) u (drifts_at t _ _ l f c.drifts.ensures c.if-drifts.false) (sym c.fragment.ensures ∙ c.if-fragment.true), c.recovered.ensures.1)
+    let f = full_of t l s.requires u in (
+      c.recovered.ensures.0 ∙ checked_recovers standard (view t) u
+          (drifts_at t _ _ l f c.drifts.ensures c.if-drifts.false)
+          (sym c.fragment.ensures ∙ c.if-fragment.true),
+      c.recovered.ensures.1,
+    )
 
 pub returns-else-fragment : goal.returns-else-fragment
 returns-else-fragment c =
@@ -58,8 +64,12 @@ returns-else-fragment c =
     let t = s.args.t in
     let l : length t.ring ≡ 12 = search (unmapped, rules) in
     let u = sym c.uniform.ensures ∙ c.if-uniform.true in
-    let f = full_of t l s.requires u in
-    (checked_stays standard (view t) u (drifts_at t _ _ l f c.drifts.ensures c.if-drifts.false) (sym c.fragment.ensures ∙ c.if-fragment.false), s.requires.counted)
+    let f = full_of t l s.requires u in (
+      checked_stays standard (view t) u (drifts_at t _ _ l f c.drifts.ensures c.if-drifts.false)
+          (sym c.fragment.ensures ∙ c.if-fragment.false),
+      s.requires.counted,
+    )
 
 pub returns-else-uniform : goal.returns-else-uniform
-returns-else-uniform c = (checked_mixed standard (view c.args.t) (sym c.uniform.ensures ∙ c.if-uniform.false), c.requires.counted)
+returns-else-uniform c =
+    (checked_mixed standard (view c.args.t) (sym c.uniform.ensures ∙ c.if-uniform.false), c.requires.counted)

@@ -1,32 +1,54 @@
 -- `tracker::inner::rivals::three_to_one_alternative` meets its contract. Assumes nothing.
-use Rattle.std.proofs.Common.{sym, ap, ◌∙◌}
 use Rattle.ranges.proofs.Standard.{standard_good, standard_held}
 use Rattle.ranges.specs.Settings.{standard}
-use Rattle.tracker.specs.Steps.{timed, bound, fresh}
-use Rattle.pair.specs.Readings.{other_pair}
+use Rattle.std.proofs.Common.{◌≡◌, Bool, true, false, cond, Some, None, refl, sym, ap, ◌∙◌}
+use Rattle.std.proofs.lemmas.Option.{cond_some, none-some}
+use Rattle.tracker.specs.Model.{view}
+use Rattle.tracker.specs.Parts.{other}
 use Rattle.pair.specs.Model.{Pair, view_pair}
-use Rattle.tracker.specs.Model.{Tracker, with_pair, view}
+use Rattle.pair.specs.Readings.{has_other, other_pair}
 use Rattle.tracker.proofs.Keeping.{other_up}
-use Rattle.tracker.proofs.Rivalling.{other_is, other_not}
+use Rattle.tracker.proofs.Rivalling.{other_is, other_not, reads_other}
 use Rattle.pair.proofs.Reading.{other_ready}
 use Rattle.tracker.proofs.Stored.{sane_of, still}
-use Rattle.tracker.proofs.Soundness.{counts}
 use Rattle.tracker.proofs.inner.rivals.three_to_one_alternative.Goals as goal
 
-pub bound-requires : goal.bound-requires
-bound-requires c =
-    let k = counts standard c.fresh-u.result c.fresh-u.ensures.1.1 in
-    record { init = c.other_pair-q.ensures.1; ring = k.ring; recent = k.recent }
+said : (p q : Pair) → cond (has_other standard p) (Some (other_pair p)) None ≡ Some q
+    → (has_other standard p ≡ true) × (other_pair p ≡ q)
+said p q e = cond_some (has_other standard p) (other_pair p) q e
 
-pub returns-then-has_other : goal.returns-then-has_other
-returns-then-has_other c =
-    let s = c.before.before.before.before.before.before.before in
-    let t = s.args.t in
-    let x = c.timed-r.ensures.0 ∙ ap (timed standard) (c.bound.ensures.0 ∙ ap (λ (z : Tracker). bound standard (with_pair z (view_pair c.other_pair-q.result))) c.fresh-u.ensures.1.0 ∙ ap (λ (p : Pair). bound standard (with_pair fresh p)) c.other_pair-q.ensures.0) in
-    let e = sym c.has_other.ensures ∙ c.if-has_other.true in
-    (other_is standard (view t) c.timed-r.result e x, (still c.timed-r.result (timed standard (bound standard (with_pair fresh (other_pair (view t).pair)))) (x, c.timed-r.ensures.1) (other_up standard standard_good standard_held (view t) (record { sane = sane_of t _ s.well_formed.0.1.1 s.requires; ready = other_ready (view t).pair e })).sane).1)
+unsaid : (b : Bool) (q : Pair) → None ≡ cond b (Some q) None → b ≡ false
+unsaid true q e = absurd (none-some q e)
+unsaid false q e = refl
+
+pub returns-in_err-pair : goal.returns-in_err-pair
+returns-in_err-pair c =
+    let m = view c.args.t.tracker in
+    ap other c.from_residual.ensures
+    ∙ other_not standard m (unsaid (has_other standard m.pair) (other_pair m.pair) c.in_err-pair.ensures.is)
+
+pub invariant_of-result : goal.invariant_of-result
+invariant_of-result c =
+    let t = c.args.t in
+    let m = view t.tracker in
+    let h = said m.pair (view_pair c.in_ok-pair.pair) (sym c.in_ok-pair.ensures.is) in
+    record {
+      held =
+          still c.timed.result _ (
+            reads_other standard m _ _ _ _ c.fresh.ensures.1 (sym h.1) c.bound.ensures.0
+                c.timed.ensures.0,
+            c.timed.ensures.1,
+          )
+          (other_up standard standard_good standard_held m
+          (record {
+            sane = sane_of t _ c.well_formed.0.1.1;
+            ready = other_ready m.pair h.0;
+          })).sane;
+    }
 
 pub returns : goal.returns
 returns c =
-    let s = c.before.before.before in
-    (other_not standard (view s.args.t) s.args.t (sym c.has_other.ensures ∙ c.if-has_other.false), s.requires)
+    let m = view c.args.t.tracker in
+    let h = said m.pair (view_pair c.in_ok-pair.pair) (sym c.in_ok-pair.ensures.is) in
+    other_is standard m _ h.0
+    (reads_other standard m _ _ _ _ c.fresh.ensures.1 (sym h.1) c.bound.ensures.0 c.timed.ensures.0)
