@@ -10,7 +10,8 @@ use Rattle.tracker.proofs.Stored.{ready_dit_in}
 use Rattle.rival.specs.declared.TimingHypothesis.{TimingHypothesis}
 use Rattle.rival.specs.Sound.{logs_same, scores_sound, hyp_sound}
 use Rattle.bank.specs.declared.TimingBank.{TimingBank}
-use Rattle.bank.specs.Parts.{widest, All}
+use Rattle.std.specs.List.{AllByRecursion}
+use Rattle.bank_model.specs.Departures.{widest}
 use Rattle.bank.specs.Sound.{counted, width_sound, rest_sound, sound}
 use Rattle.bank.proofs.Sounding.{all_facts}
 
@@ -25,7 +26,8 @@ dit_in h t =
     ready_dit_in h.tracker a.0 (is_true h.tracker.pair.ready b.0)
 
 -- every challenger of a sound bank is ready, with its dit in 20 to 150
-pub crew_dits : (b : TimingBank) → T (sound standard widest b) → All DitIn (take b.challengers_len b.challengers)
+pub crew_dits : (b : TimingBank) → T (sound standard widest b) →
+    AllByRecursion DitIn (take b.challengers_len b.challengers)
 unfolding sound
 crew_dits b t =
     let crew = take b.challengers_len b.challengers in

@@ -22,7 +22,8 @@ use Rattle.rival.specs.View.{view_hyp}
 use Rattle.rival.specs.Parts.{Fit}
 use Rattle.bank.specs.declared.TimingBank.{TimingBank}
 use Rattle.bank.specs.View.{view}
-use Rattle.bank.specs.Parts.{All, Sturdy}
+use Rattle.std.specs.List.{AllByRecursion}
+use Rattle.bank.specs.Sturdy.{Sturdy}
 
 abbrev DitIn : Float → Type 0
 DitIn x = In standard.dit_min standard.dit_max x
@@ -44,11 +45,13 @@ over_larger u v i j =
     number : (u : Float) → DitIn u → is_nan u ≡ true → ⊥
     number u i e = subst (λ (x : Bool). T (not x)) e (in_number standard.dit_min standard.dit_max u i)
 
-greatest_over : (l : List TimingHypothesis) (u : Float) → DitIn u → All Fit l → Over u (greatest_unit standard u (map view_hyp l))
-unfolding All greatest_unit
+greatest_over : (l : List TimingHypothesis) (u : Float) → DitIn u → AllByRecursion Fit l →
+    Over u (greatest_unit standard u (map view_hyp l))
+unfolding greatest_unit
 greatest_over [] u i a = (le_self u (dit_finite u i), i)
 greatest_over (h ∷ l) u i a =
-    let o = over_larger u (dit_estimate standard (view_hyp h).tracker) i (estimate_dit h.tracker a.0.tracker a.0.ready) in
+    let o = over_larger u (dit_estimate standard (view_hyp h).tracker) i (estimate_dit h.tracker a.0.tracker a.0.ready)
+    in
     let r = greatest_over l (larger u (dit_estimate standard (view_hyp h).tracker)) o.1 a.1 in
     (le_trans_float _ _ _ o.0 r.0, r.1)
 
@@ -64,10 +67,14 @@ stays_false : (y z : Bool) → z ≡ false → (T y → T z) → y ≡ false
 stays_false true z e f = absurd (not_both z e (f tt))
 stays_false false z e f = refl
 
-pub no_pause : (b : TimingBank) (p : SpeedTracker) (d : Float) → Sturdy b → T (sound standard p) → p.pair.ready ≡ true → le (mul binary32 pause_dits (dit_estimate standard (Tracked.view p))) d ≡ false → pausing standard (view b) (Tracked.view p) d ≡ false
+pub no_pause : (b : TimingBank) (p : SpeedTracker) (d : Float) → Sturdy b → T (sound standard p) → p.pair.ready ≡ true →
+    le (mul binary32 pause_dits (dit_estimate standard (Tracked.view p))) d ≡ false →
+    pausing standard (view b) (Tracked.view p) d ≡ false
 unfolding pausing_at
 no_pause b p d y s r e =
     let u = dit_estimate standard (Tracked.view p) in
     let i = estimate_dit p s r in
-    let o = greatest_over (take b.challengers_len b.challengers) u i y.steady.crew.each in
-    stays_false _ _ e (λ h. le_trans_float _ _ _ (mul_mono_right binary32 pause_dits u _ twelve (dit_finite u i) (dit_finite _ o.1) o.0) h)
+    let o = greatest_over (take b.challengers_len b.challengers) u i y.crew.each in
+    stays_false _ _ e
+    (λ h. le_trans_float _ _ _
+    (mul_mono_right binary32 pause_dits u _ twelve (dit_finite u i) (dit_finite _ o.1) o.0) h)

@@ -1,6 +1,24 @@
 -- The other reading of a bootstrap. Assumes nothing.
-use Rattle.std.proofs.Common.{◌≡◌, ℕ, ◌<◌, ◌≤◌, Bool, true, false, cond, ◌&&◌, T, eqb, leb, List, [], length, sym, refl, ap, ◌∙◌, subst, true≢false, leb→le}
-use mathlib.Core.Bool.{false≢true}
+use Rattle.std.proofs.Common.{
+  ◌≡◌,
+  ℕ,
+  ◌≤◌,
+  Bool,
+  true,
+  false,
+  cond,
+  ◌&&◌,
+  eqb,
+  leb,
+  List,
+  [],
+  sym,
+  refl,
+  ap,
+  ◌∙◌,
+  subst,
+  leb→le,
+}
 use mathlib.Core.Option.{Option, none, some}
 use Rattle.ranges.proofs.Compare.{passed}
 use Rattle.bank_model.proofs.Tests.{and_right}
@@ -9,9 +27,9 @@ use Rattle.ranges.specs.Settings.{standard}
 use Rattle.tracker.specs.declared.SpeedTracker.{SpeedTracker}
 use Rattle.tracker.specs.Model.{Tracker}
 use Rattle.tracker.specs.Model as Tracked
-use Rattle.tracker.specs.Parts.{other}
 use Rattle.tracker.specs.Steps.{from_marks, three_to_one}
 use Rattle.bank_model.specs.declared.Origin.TheVariants.{Bootstrap}
+use Rattle.bank_model.specs.declared.logs.LogPair.{LogPair}
 use Rattle.bank_model.specs.Model.{Bank, Told, stay}
 use Rattle.bank_model.specs.Scores.{ln_dit, ln_dah}
 use Rattle.bank_model.specs.Steps.{least_place, without, lone, spawned_at, spawned_if_at, on_ready}
@@ -31,12 +49,14 @@ module _ (p : Tracker) (l : List Float) where
   other_by c o ec eo = sym (ap (λ (z : Bool). by z (lone p l)) ec ∙ ap (by c) eo)
 
   ready_if : (c o : Bool) (t : Tracker) → by c o ≡ some t → t.pair.ready ≡ true
-  ready_if true true t e = subst (λ (x : Tracker). x.pair.ready ≡ true) (ap (pick p) e) (from_ready (without (least_place l) l) [])
+  ready_if true true t e =
+      subst (λ (x : Tracker). x.pair.ready ≡ true) (ap (pick p) e) (from_ready (without (least_place l) l) [])
   ready_if true false t e = cc
   ready_if false o t e = turned_ready standard p t e
 
-  pub other_ready : (is : Bool) (t : SpeedTracker) → is ≡ true → other is t ≡ Steps.other standard p l → t.pair.ready ≡ true
-  other_ready is t e o = ready_if p.pair.confirmed (lone p l) (Tracked.view t) (other_by p.pair.confirmed (lone p l) refl refl ∙ sym o ∙ ap (λ (z : Bool). other z t) e)
+  pub other_ready : (t : SpeedTracker) → some (Tracked.view t) ≡ Steps.other standard p l → t.pair.ready ≡ true
+  other_ready t o =
+      ready_if p.pair.confirmed (lone p l) (Tracked.view t) (other_by p.pair.confirmed (lone p l) refl refl ∙ sym o)
 
 module _ (b : Bank) (p : Tracker) (l : List Float) where
   abbrev ready_by : Bool → Option Tracker → Told
@@ -46,13 +66,16 @@ module _ (b : Bank) (p : Tracker) (l : List Float) where
   unfolding on_ready
   ready_off e = ap (λ (z : Bool). ready_by z (Steps.other standard p l)) (sym e)
 
-  pub ready_on : (lo hi : Float) (o : Option Tracker) → leb 2 b.width ≡ true → lo ≡ ln_dit p → hi ≡ ln_dah p → o ≡ Steps.other standard p l → spawned_if_at b lo hi Bootstrap o ≡ on_ready standard b p l
+  pub ready_on : (k : LogPair) (o : Option Tracker) → leb 2 b.width ≡ true → (k.lo ≡ ln_dit p) × (k.hi ≡ ln_dah p) → o
+      ≡ Steps.other standard p l → spawned_if_at b k.lo k.hi Bootstrap o ≡ on_ready standard b p l
   unfolding on_ready
-  ready_on lo hi o e el eh eo =
-      ap (λ (z : Float). spawned_if_at b z hi Bootstrap o) el ∙ ap (λ (z : Float). spawned_if_at b (ln_dit p) z Bootstrap o) eh ∙ ap (ready_by true) eo ∙ ap (λ (z : Bool). ready_by z (Steps.other standard p l)) (sym e)
+  ready_on k o e el eo =
+      ap (λ (z : Float). spawned_if_at b z k.hi Bootstrap o) el.0
+      ∙ ap (λ (z : Float). spawned_if_at b (ln_dit p) z Bootstrap o) el.1 ∙ ap (ready_by true) eo
+      ∙ ap (λ (z : Bool). ready_by z (Steps.other standard p l)) (sym e)
 
   pub ready_none : leb 2 b.width ≡ true → none ≡ Steps.other standard p l → stay b ≡ on_ready standard b p l
-  ready_none e eo = ready_on (ln_dit p) (ln_dah p) none e refl refl eo
+  ready_none e eo = ready_on (record { lo = ln_dit p; hi = ln_dah p }) none e (refl, refl) eo
 
 -- a lone lock has three marks at least
 pub lone_three : (n m : ℕ) → (eqb n 1 && leb 3 m) ≡ true → 3 ≤ m

@@ -1,3 +1,6 @@
+pub mod Props
+pub mod Streaks
+pub mod Sturdy
 pub mod View
 pub mod Parts
 pub mod Sound

@@ -1,16 +1,16 @@
 -- What a bank's struct means. Definitions only.
-use Rattle.std.specs.Prelude.{ℕ, Bool, true, false, List, map, take}
-use Rattle.std.proofs.Math.Option.{Option, none, some}
-use Rattle.bank_model.specs.Model.{Hyp, Evidence, Bank, Told}
+use Rattle.std.specs.Prelude.{ℕ, List, map, take, Float}
+use Rattle.std.specs.Prelude as Given
+use Rattle.std.specs.Prelude.{Some, None}
+use Rattle.std.proofs.Math.Option.{Option, some, none}
+use Rattle.ranges.specs.declared.duration.Duration.{Duration}
+use Rattle.pair.specs.Model.{held}
+use Rattle.bank_model.specs.Left.{those}
+use Rattle.bank_model.specs.Model.{Hyp, Bank, Told}
 use Rattle.rival.specs.declared.TimingHypothesis.{TimingHypothesis}
 use Rattle.rival.specs.View.{view_hyp}
 use Rattle.bank.specs.declared.TimingBank.{TimingBank}
 use Rattle.bank.specs.declared.Changed.{Changed}
-
--- a flag and what it says is there
-abbrev pub given : {A : Type 0} → Bool → A → Option A
-given true x = some x
-given false x = none
 
 abbrev pub view_all : ℕ → List TimingHypothesis → List Hyp
 view_all n l = map view_hyp (take n l)
@@ -26,15 +26,20 @@ view b = record {
   evidence = record {
     streak = take b.streak_len b.streak;
     gaps = take b.streak_gaps_len b.streak_gaps;
-    side = given b.has_side b.streak_side;
-    last_gap = given b.has_last_gap b.last_gap;
+    side = held b.streak_side;
+    last_gap = held b.last_gap;
   };
   marks = b.marks_seen;
   gaps = b.gaps_seen;
-  pending = given b.has_pending b.pending;
+  pending = held b.pending;
   log = take b.log_len b.log;
   started = b.started;
 }
 
+-- a gap before a mark, if there is one
+abbrev pub before : Given.Option Duration → Option Float
+before (Some d) = some d.ms
+before None = none
+
 abbrev pub told : Changed → Told
-told c = record { bank = view c.bank; left = take c.left_len c.left }
+told c = record { bank = view c.bank.bank; left = those c.gone }

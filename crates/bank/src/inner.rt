@@ -1,4 +1,5 @@
-// What the calls do, for banks that are sound: each function asks what it needs.
+// What the calls do, for banks that are sound. What a function needs is borne by its arguments' types (`SoundBank`,
+// `OpenBank`, `Duration`, `Measured`, `Marks`), or asked by its `requires`.
 pub mod among;
 pub mod beat;
 pub mod clear;

@@ -1,14 +1,23 @@
 // The bank of rivals of document 01, "TimingBank".
 #![tactic(auto)]
 
-use bank_model::{Departure, MOST_LEFT, SwitchRecord};
+use bank_model::{Departures, SwitchRecord};
+pub use open_bank::OpenBank;
+use refusals::Refusal;
 use rival::TimingHypothesis;
-use tracker::{Flag, SpeedTracker, Told};
+pub use run::Run;
+pub use sound_bank::SoundBank;
+use tracker::SpeedTracker;
 
 pub mod calls;
 pub mod inner;
+mod open_bank;
+mod run;
+mod sound_bank;
 
-// A bank: a list is an array and a count, an optional number is a flag and a number.
+// A bank: a list is an array and a count. The challengers stay plain, as a bank that is not sound has to be told as
+// well; a type of fit ones would be wrapped at each read and unwrapped at each write, and `SoundBank` says it of all at
+// once.
 #[derive(Clone, Copy)]
 pub struct TimingBank {
     pub width: usize,
@@ -21,76 +30,35 @@ pub struct TimingBank {
     pub streak_len: usize,
     pub streak_gaps: [f32; 4],
     pub streak_gaps_len: usize,
-    pub has_side: bool,
-    pub streak_side: bool,
-    pub has_last_gap: bool,
-    pub last_gap: f32,
+    pub streak_side: Option<bool>,
+    pub last_gap: Option<f32>,
     pub marks_seen: u64,
     pub gaps_seen: u64,
-    pub has_pending: bool,
-    pub pending: usize,
+    pub pending: Option<usize>,
     pub log: [SwitchRecord; 16],
     pub log_len: usize,
     pub started: u64,
 }
 
-// A bank after a call, and those that left it in the call.
+// A sound bank after a call, and those that left it in the call.
 #[derive(Clone, Copy)]
 pub struct Changed {
-    pub bank: TimingBank,
-    pub left: [Departure; MOST_LEFT],
-    pub left_len: usize,
+    pub bank: SoundBank,
+    pub gone: Departures,
 }
 
-// The answer of a call that may send challengers away, and what it changed.
-#[derive(Clone, Copy)]
-pub struct Answered {
-    pub told: Told,
-    pub changed: Changed,
-}
-
-// The answer of a call that none leaves at, and the bank that is handed back.
+// What `new` answers: whether the width was refused, and the bank that is handed back, in which nothing was heard yet.
 #[derive(Clone, Copy)]
 pub struct Heard {
-    pub told: Told,
+    pub told: Result<(), Refusal>,
     pub bank: TimingBank,
 }
 
 // The answer of a switch call: whether the two were exchanged, the bank, the primary, and the primary's serial.
 #[derive(Clone, Copy)]
 pub struct Switched {
-    pub flag: Flag,
+    pub flag: Result<bool, Refusal>,
     pub bank: TimingBank,
     pub primary: SpeedTracker,
     pub serial: u64,
-}
-
-// The answer of a call that tells a count.
-#[derive(Clone, Copy)]
-pub enum Tally {
-    Is(u64),
-    Refused(u8),
-}
-
-// Whether there is one, or why it is not told.
-#[derive(Clone, Copy)]
-pub enum Place {
-    Held,
-    Absent,
-    Refused(u8),
-}
-
-// The answer of a call that tells of a challenger; where there is none, the hypothesis says nothing.
-#[derive(Clone, Copy)]
-pub struct Challenger {
-    pub place: Place,
-    pub hypothesis: TimingHypothesis,
-}
-
-// The answer of a call that tells of a switch record.
-#[derive(Clone, Copy)]
-pub enum Logged {
-    Is(SwitchRecord),
-    Absent,
-    Refused(u8),
 }

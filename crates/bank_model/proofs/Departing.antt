@@ -1,8 +1,8 @@
 -- How many leave in one call: never more than the challengers that the bank had, under every good settings record.
 -- Assumes nothing.
-use mathlib.Core.Path.{◌≡◌, refl, ap, sym, ◌∙◌, subst}
-use mathlib.Core.Bool.{Bool, true, false, not, cond, ◌||◌, true≢false}
-use mathlib.Core.List.{List, [], ◌∷◌, ◌++◌, map}
+use mathlib.Core.Path.{◌≡◌, refl, ap, subst}
+use mathlib.Core.Bool.{Bool, true, false, not, cond, ◌||◌}
+use mathlib.Core.List.{List, [], ◌∷◌, ◌++◌}
 use mathlib.Core.Option.{Option, none, some}
 use Prim.Native.Nat.{ℕ, zero, suc, ◌+◌, ◌≤◌}
 use native.Mathlib.Omega.{arith}
@@ -23,9 +23,40 @@ use Rattle.bank_model.specs.declared.Origin.{Origin}
 use Rattle.bank_model.specs.declared.Origin.TheVariants.{Bootstrap, Streak}
 use Rattle.bank_model.specs.declared.Cause.{Cause}
 use Rattle.bank_model.specs.declared.Departure.{Departure}
-use Rattle.bank_model.specs.Model.{Hyp, Bank, Told, Evidence, stay, and_then, retained, with_evidence}
+use Rattle.bank_model.specs.Model.{Hyp, Bank, Told, stay, and_then, retained, with_evidence}
 use Rattle.bank_model.specs.Scores.{behind, ln_dit, ln_dah, twins}
-use Rattle.bank_model.specs.Steps.{newborn, duplicate_at, roomy, pushed, replaced_by, replacing, victim, spawned_at, spawned_if_at, on_ready, other, short, streak_end, streak_at, scored, marked, marked_told, heard_mark, on_mark, hears, cause_at, leave_if, leaving, pruned_at, on, clear, gone_cleared, streak_on, candidate_at, emptied, high}
+use Rattle.bank_model.specs.Steps.{
+  newborn,
+  duplicate_at,
+  roomy,
+  pushed,
+  replaced_by,
+  replacing,
+  victim,
+  spawned_at,
+  spawned_if_at,
+  on_ready,
+  other,
+  short,
+  streak_at,
+  scored,
+  marked,
+  marked_told,
+  heard_mark,
+  on_mark,
+  hears,
+  cause_at,
+  leave_if,
+  leaving,
+  pruned_at,
+  on,
+  clear,
+  gone_cleared,
+  streak_on,
+  candidate_at,
+  emptied,
+  high,
+}
 use Rattle.bank_model.proofs.Scoring.{mark_score_in}
 
 -- ---- a newborn stays at its own mark

@@ -1,3 +1,4 @@
+pub mod Padding
 pub mod Tests
 pub mod Scoring
 pub mod Ready

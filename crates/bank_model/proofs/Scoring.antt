@@ -1,9 +1,32 @@
 -- A mark or a gap scores from -3 to 0, and a score stays from -30 to 0. Assumes nothing.
 use mathlib.Core.Path.{◌≡◌, refl, sym, ap, ◌∙◌, subst}
-use mathlib.Core.Bool.{Bool, true, false, not, cond, true≢false, false≢true}
+use mathlib.Core.Bool.{Bool, true, false, cond, true≢false, false≢true}
 use Prim.Native.Nat.{ℕ, zero, suc, ◌*◌, ◌+◌, ◌^◌}
 use lib.Dec.{T, eqb, ltb}
-use lib.Ieee.{Float, nan, inf, fin, Format, binary32, prec, emax, low, unlike, up, down, odd, units, round, add, sub, mul, div, lt, le, is_nan, of_bits}
+use lib.Ieee.{
+  Float,
+  nan,
+  inf,
+  fin,
+  Format,
+  binary32,
+  prec,
+  emax,
+  low,
+  unlike,
+  up,
+  down,
+  odd,
+  units,
+  round,
+  sub,
+  mul,
+  div,
+  lt,
+  le,
+  is_nan,
+  of_bits,
+}
 use lib.Ieee.Fits.{round_is}
 use lib.Ieee.Bits.{is_false}
 use Rattle.order.specs.Order.{larger}
@@ -32,7 +55,9 @@ odd_sign d s (suc q) k l = refl
 
 units_sign : (f : Format) (s : Bool) (q k : ℕ) → Sign s (units f s q k)
 unfolding units
-units_sign f s q k = by_cond (Sign s) (ltb (q * 2 ^ k) (2 ^ (low f + suc (emax f)))) (odd (suc (prec f)) s q k (low f)) (inf s) (λ e. odd_sign (suc (prec f)) s q k (low f)) (λ e. refl)
+units_sign f s q k =
+    by_cond (Sign s) (ltb (q * 2 ^ k) (2 ^ (low f + suc (emax f)))) (odd (suc (prec f)) s q k (low f)) (inf s)
+    (λ e. odd_sign (suc (prec f)) s q k (low f)) (λ e. refl)
 
 round_sign : (f : Format) (s : Bool) (a c : ℕ) → Sign s (round f s a c)
 round_sign f s a c = subst (Sign s) (sym (round_is f s a c)) (units_sign f s _ _)
@@ -49,18 +74,29 @@ unfolding mul
 mul_sign f u v nan y p q = tt
 mul_sign f u v (inf s) nan p q = tt
 mul_sign f u v (inf s) (inf t) p q = both_signs s t u v p q
-mul_sign f u v (inf s) (fin t n d) p q = subst (λ (z : Bool). Sign z (cond (eqb n 0) nan (inf (unlike s t)))) (both_signs s t u v p q) (infinite_sign (eqb n 0) (unlike s t))
+mul_sign f u v (inf s) (fin t n d) p q =
+    subst (λ (z : Bool). Sign z (cond (eqb n 0) nan (inf (unlike s t)))) (both_signs s t u v p q)
+    (infinite_sign (eqb n 0) (unlike s t))
 mul_sign f u v (fin s m e) nan p q = tt
-mul_sign f u v (fin s m e) (inf t) p q = subst (λ (z : Bool). Sign z (cond (eqb m 0) nan (inf (unlike s t)))) (both_signs s t u v p q) (infinite_sign (eqb m 0) (unlike s t))
-mul_sign f u v (fin s m e) (fin t n d) p q = subst (λ (z : Bool). Sign z (round f (unlike s t) (m * up e * (n * up d)) (down e * down d))) (both_signs s t u v p q) (round_sign f (unlike s t) _ _)
+mul_sign f u v (fin s m e) (inf t) p q =
+    subst (λ (z : Bool). Sign z (cond (eqb m 0) nan (inf (unlike s t)))) (both_signs s t u v p q)
+    (infinite_sign (eqb m 0) (unlike s t))
+mul_sign f u v (fin s m e) (fin t n d) p q =
+    subst (λ (z : Bool). Sign z (round f (unlike s t) (m * up e * (n * up d)) (down e * down d)))
+    (both_signs s t u v p q) (round_sign f (unlike s t) _ _)
 
 -- k * z * z for a k with a minus
 square_sign : (f : Format) (k z : Float) → Sign true k → Sign true (mul f (mul f k z) z)
 square_sign f k nan p = mul_sign f true false (mul f k nan) nan (mul_sign f true false k nan p tt) tt
-square_sign f k (inf true) p = mul_sign f false true (mul f k (inf true)) (inf true) (mul_sign f true true k (inf true) p refl) refl
-square_sign f k (inf false) p = mul_sign f true false (mul f k (inf false)) (inf false) (mul_sign f true false k (inf false) p refl) refl
-square_sign f k (fin true m e) p = mul_sign f false true (mul f k (fin true m e)) (fin true m e) (mul_sign f true true k (fin true m e) p refl) refl
-square_sign f k (fin false m e) p = mul_sign f true false (mul f k (fin false m e)) (fin false m e) (mul_sign f true false k (fin false m e) p refl) refl
+square_sign f k (inf true) p =
+    mul_sign f false true (mul f k (inf true)) (inf true) (mul_sign f true true k (inf true) p refl) refl
+square_sign f k (inf false) p =
+    mul_sign f true false (mul f k (inf false)) (inf false) (mul_sign f true false k (inf false) p refl) refl
+square_sign f k (fin true m e) p =
+    mul_sign f false true (mul f k (fin true m e)) (fin true m e) (mul_sign f true true k (fin true m e) p refl) refl
+square_sign f k (fin false m e) p =
+    mul_sign f true false (mul f k (fin false m e)) (fin false m e) (mul_sign f true false k (fin false m e) p refl)
+    refl
 
 minus_half_law : Sign true minus_half
 unfolding of_bits
@@ -88,7 +124,8 @@ under a (fin false m e) p t = absurd (false≢true p)
 larger_in : (a y : Float) → In floor nought a → Sign true y → In floor nought (larger a y)
 larger_in a y i p =
     on_false (In floor nought) (is_nan a) y (cond (lt a y) y a) (is_false (is_nan a) (in_number floor nought a i))
-    (by_cond (In floor nought) (lt a y) y a (λ t. in_widen a nought floor nought y i.0 (self nought) (lt→le a y (passed t), under a y p t)) (λ t. i))
+    (by_cond (In floor nought) (lt a y) y a
+    (λ t. in_widen a nought floor nought y i.0 (self nought) (lt→le a y (passed t), under a y p t)) (λ t. i))
   where
     self : (x : Float) → T (le nought nought)
     self x = unfold le in tt
@@ -114,8 +151,10 @@ pub zero_in : In score_min nought nought
 unfolding le of_bits
 zero_in = (tt, tt)
 
-pub mark_score_in : (s : Float) (t : Tracker) (d : Float) → In score_min nought s → In score_min nought (score_mark s t d)
+pub mark_score_in : (s : Float) (t : Tracker) (d : Float) → In score_min nought s →
+    In score_min nought (score_mark s t d)
 mark_score_in s t d i = decayed_in s _ i (mark_in _ _ _)
 
-pub gap_score_in : (k : Settings) (s : Float) (t : Tracker) (d : Float) → In score_min nought s → In score_min nought (score_gap k s t d)
+pub gap_score_in : (k : Settings) (s : Float) (t : Tracker) (d : Float) → In score_min nought s →
+    In score_min nought (score_gap k s t d)
 gap_score_in k s t d i = decayed_in s _ i (gap_in _ _)

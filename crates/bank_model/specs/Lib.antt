@@ -1,4 +1,6 @@
 pub mod Constants
+pub mod Departures
+pub mod Left
 pub mod Model
 pub mod Scores
 pub mod Steps

@@ -1,6 +1,7 @@
--- What a bank means: challengers, streak and log as lists, and what may be absent (document 01, "TimingBank"). Definitions only.
-use Rattle.std.specs.Prelude.{Bool, true, false, cond, not, ◌&&◌, List, [], ◌∷◌, ◌++◌, ℕ, zero, suc, ◌+◌, ◌-◌, ◌%◌, ◌^◌, ltb, leb, Float}
-use Rattle.std.proofs.Math.Option.{Option, none, some}
+-- What a bank means: challengers, streak and log as lists, and what may be absent (document 01, "TimingBank").
+-- Definitions only.
+use Rattle.std.specs.Prelude.{Bool, false, cond, List, [], ◌++◌, ℕ, ◌+◌, ◌-◌, ◌%◌, ◌^◌, ltb, Float}
+use Rattle.std.proofs.Math.Option.{Option}
 use Rattle.tracker.specs.Model.{Tracker}
 use Rattle.bank_model.specs.declared.Origin.{Origin}
 use Rattle.bank_model.specs.declared.Origin.TheVariants.{Bootstrap, Streak, FormerPrimary}

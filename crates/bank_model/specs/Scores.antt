@@ -1,4 +1,5 @@
--- How well a mark or a gap fits a hypothesis, and which hypotheses are twins (document 01, "TimingBank"; the Rust's `class_ll`, `mark_ll`, `gap_ll`, `duplicates`).
+-- How well a mark or a gap fits a hypothesis, and which hypotheses are twins (document 01, "TimingBank"; the Rust's
+-- `class_ll`, `mark_ll`, `gap_ll`, `duplicates`).
 -- Definitions only.
 use Rattle.std.specs.Prelude.{Bool, not, ◌&&◌, Float}
 use Rattle.std.specs.Float.{binary32}
@@ -34,7 +35,9 @@ mark_fit x lo hi = larger (larger floor (fit sigma_mark x lo)) (fit sigma_mark x
 
 -- "a gap does so over 1, 3 and 7 units with 0.35", for a unit of logarithm u
 unfoldable pub gap_fit : Float → Float → Float
-gap_fit x u = larger (larger (larger floor (fit sigma_gap x u)) (fit sigma_gap x (add binary32 u ln3))) (fit sigma_gap x (add binary32 u ln7))
+gap_fit x u =
+    larger (larger (larger floor (fit sigma_gap x u)) (fit sigma_gap x (add binary32 u ln3)))
+    (fit sigma_gap x (add binary32 u ln7))
 
 -- "Each adds to 0.90 times the old score"
 unfoldable pub decayed : Float → Float → Float

@@ -1,10 +1,37 @@
--- What the calls of a bank do (document 01, "TimingBank" and the serials and departures of "Station"; the Rust's `TimingBank`). Definitions only.
-use Rattle.std.specs.Prelude.{Bool, true, false, cond, not, ◌&&◌, ◌||◌, List, [], ◌∷◌, ◌++◌, map, ℕ, zero, suc, ◌+◌, ◌<◌, length, set, ltb, leb, eqb, Float}
+-- What the calls of a bank do (document 01, "TimingBank" and the serials and departures of "Station"; the Rust's
+-- `TimingBank`). Definitions only.
+use Rattle.std.specs.Prelude.{
+  Bool,
+  true,
+  false,
+  cond,
+  not,
+  ◌&&◌,
+  ◌||◌,
+  List,
+  [],
+  ◌∷◌,
+  ◌++◌,
+  map,
+  ℕ,
+  zero,
+  suc,
+  ◌+◌,
+  ◌<◌,
+  length,
+  set,
+  ltb,
+  leb,
+  eqb,
+  Float,
+}
+use Rattle.std.specs.Prelude as Searched
+use Rattle.std.specs.Prelude.{None, Some}
 use Rattle.std.specs.Bool.{beq}
 use Rattle.std.proofs.Math.Option.{Option, none, some}
 use Rattle.std.proofs.Math.ListN.{get_elem?}
 use Rattle.std.specs.Float.{binary32}
-use Rattle.std.specs.Float.Ieee.{mul, lt, le}
+use Rattle.std.specs.Float.Ieee.{mul, le}
 use Rattle.order.specs.Order.{larger, total_less}
 use Rattle.ranges.specs.Settings.{Settings}
 use Rattle.marks.specs.Lists as Lists
@@ -14,15 +41,39 @@ use Rattle.tracker.specs.Steps.{dit_estimate, element_gap, from_marks, three_to_
 use Rattle.tracker.specs.Steps as Tracking
 use Rattle.bank_model.specs.declared.Origin.{Origin}
 use Rattle.bank_model.specs.declared.Origin.TheVariants.{Bootstrap, Streak, FormerPrimary}
-use Rattle.bank_model.specs.declared.Best.{Best}
-use Rattle.bank_model.specs.declared.Best.TheVariants.{Unfound, Found}
 use Rattle.bank_model.specs.declared.Cause.{Cause}
 use Rattle.bank_model.specs.declared.Cause.TheVariants.{Twin, Outscored, Aged, Replaced, Cleared}
 use Rattle.bank_model.specs.declared.Departure.{Departure}
 use Rattle.bank_model.specs.declared.SwitchRecord.{SwitchRecord}
 use Rattle.bank_model.specs.Constants.{pause_dits}
-use Rattle.bank_model.specs.Model.{Hyp, Evidence, Bank, Told, stay, and_then, up1, following, retained, ticked, with_challengers, with_new, with_evidence, with_last_gap}
-use Rattle.bank_model.specs.Scores.{score_mark, score_gap, zero_score, ahead, behind, above, below, ln_dit, ln_dah, twins, alike}
+use Rattle.bank_model.specs.Model.{
+  Hyp,
+  Evidence,
+  Bank,
+  Told,
+  stay,
+  and_then,
+  up1,
+  following,
+  retained,
+  ticked,
+  with_challengers,
+  with_new,
+  with_evidence,
+  with_last_gap,
+}
+use Rattle.bank_model.specs.Scores.{
+  score_mark,
+  score_gap,
+  zero_score,
+  ahead,
+  behind,
+  above,
+  below,
+  ln_dit,
+  ln_dah,
+  twins,
+}
 
 abbrev pub none_yet : Evidence
 none_yet = record { streak = []; gaps = []; side = none; last_gap = none }
@@ -52,22 +103,26 @@ hears b p = on b && p.pair.ready
 
 -- ---- the places of the first least and of the first highest score among those that a test picks
 
+-- the place of the best score found so far, and that score
+abbrev pub Best : Type 0
+Best = Searched.Option (ℕ × Float)
+
 abbrev pub place : Best → Option ℕ
-place Unfound = none
-place (Found i s) = some i
+place None = none
+place (Some f) = some f.0
 
 -- what was found, if anything, is before place n
 abbrev pub Before : ℕ → Best → Type 0
-Before n Unfound = Unit {0}
-Before n (Found i s) = i < n
+Before n None = Unit {0}
+Before n (Some f) = f.0 < n
 
 abbrev pub lesser : ℕ → Float → Best → Best
-lesser i s Unfound = Found i s
-lesser i s (Found j t) = cond (below s t) (Found i s) (Found j t)
+lesser i s None = Some (i, s)
+lesser i s (Some f) = cond (below s f.1) (Some (i, s)) (Some f)
 
 abbrev pub higher : ℕ → Float → Best → Best
-higher i s Unfound = Found i s
-higher i s (Found j t) = cond (above s t) (Found i s) (Found j t)
+higher i s None = Some (i, s)
+higher i s (Some f) = cond (above s f.1) (Some (i, s)) (Some f)
 
 unfoldable pub least_from : (Hyp → Bool) → ℕ → Best → List Hyp → Best
 least_from q i acc [] = acc
@@ -113,7 +168,7 @@ abbrev pub eligible : Hyp → Bool
 eligible h = leb 8 h.age && not (retained h.origin)
 
 abbrev pub victim : List Hyp → Option ℕ
-victim l = place (least_from eligible 0 Unfound l)
+victim l = place (least_from eligible 0 None l)
 
 abbrev pub pushed : Bank → Hyp → Told
 pushed b h = record { bank = with_new b (b.challengers ++ (h ∷ [])); left = [] }
@@ -147,10 +202,12 @@ spawned_if b p o t = spawned_if_at b (ln_dit p) (ln_dah p) o t
 
 -- ---- `on_ready`
 
--- the place of the first least of a list, by Rust's total order; its head has place i, and the least before it is at place best
+-- the place of the first least of a list, by Rust's total order; its head has place i, and the least before it is at
+-- place best
 unfoldable pub first_least : ℕ → ℕ → Float → List Float → ℕ
 first_least i best low [] = best
-first_least i best low (x ∷ xs) = first_least (suc i) (cond (total_less x low) i best) (cond (total_less x low) x low) xs
+first_least i best low (x ∷ xs) =
+    first_least (suc i) (cond (total_less x low) i best) (cond (total_less x low) x low) xs
 
 unfoldable pub least_place : List Float → ℕ
 least_place [] = 0
@@ -246,7 +303,9 @@ abbrev pub short : Evidence → Bool
 short v = ltb (length v.streak) 4
 
 abbrev pub streak_end : Settings → Bank → Float → Float → Evidence → Told
-streak_end k b lo hi v = cond (short v) (stay (with_evidence b v)) (spawned_if_at (with_evidence b (emptied v)) lo hi Streak (candidate_at k lo hi v))
+streak_end k b lo hi v =
+    cond (short v) (stay (with_evidence b v))
+    (spawned_if_at (with_evidence b (emptied v)) lo hi Streak (candidate_at k lo hi v))
 
 unfoldable pub streak_at : Settings → Bank → Float → Float → Bool → Float → Option Float → Told
 streak_at k b lo hi side d gap = streak_end k b lo hi (streak_on b.evidence side d gap)
@@ -320,14 +379,15 @@ qualified k b = record {
   evidence = b.evidence;
   marks = b.marks;
   gaps = b.gaps;
-  pending = place (highest_from (qualifies b.gap_score) 0 Unfound (map (led k b.score) b.challengers));
+  pending = place (highest_from (qualifies b.gap_score) 0 None (map (led k b.score) b.challengers));
   log = b.log;
   started = b.started;
 }
 
 -- scored, and, if live, the streak's candidate put in
 abbrev pub marked_told : Settings → Bank → Tracker → Float → Bool → Told
-marked_told k b p d live = cond live (streaked k (scored k b p d live) p d b.evidence.last_gap) (stay (scored k b p d live))
+marked_told k b p d live =
+    cond live (streaked k (scored k b p d live) p d b.evidence.last_gap) (stay (scored k b p d live))
 
 abbrev pub leading : Settings → Told → Told
 leading k t = record { bank = qualified k t.bank; left = t.left }
@@ -449,7 +509,13 @@ exchanged b p serial i c = record {
     marks = b.marks;
     gaps = b.gaps;
     pending = none;  -- the choice was acted on
-    log = logged b.log (record { mark_index = b.marks; from_dit_ms = p.pair.lo; to_dit_ms = c.tracker.pair.lo; applied = true });
+    log = logged b.log (record {
+      mark_index = b.marks;
+      from_dit_ms = p.pair.lo;
+      to_dit_ms = c.tracker.pair.lo;
+      applied =
+          true;
+    });
     started = b.started;
   };
   primary = settled c.tracker;
@@ -489,7 +555,14 @@ abbrev pub observed : Bank → Tracker → ℕ → Hyp → Bank
 observed b p i c =
     cond c.reported
     (unpended b b.challengers b.log)
-    (unpended b (set b.challengers i (reporting c)) (logged b.log (record { mark_index = b.marks; from_dit_ms = p.pair.lo; to_dit_ms = c.tracker.pair.lo; applied = false })))
+    (unpended b (set b.challengers i (reporting c))
+    (logged b.log (record {
+      mark_index = b.marks;
+      from_dit_ms = p.pair.lo;
+      to_dit_ms = c.tracker.pair.lo;
+      applied =
+          false;
+    })))
 
 abbrev pub untaken : Bank → Tracker → ℕ → Taken
 untaken b p serial = record { bank = b; primary = p; serial = serial; switched = false }

@@ -1,10 +1,16 @@
-// What the bank of rivals is made of, below its state: where a hypothesis came from, how one leaves, what a switch leaves in the log.
+// What the bank of rivals is made of, below its state: where a hypothesis came from, how one leaves, what a switch
+// leaves in the log.
 #![tactic(auto)]
 
+pub use departures::Departures;
+pub use logs::{LogPair, Measured};
+
+mod departures;
 pub mod inner;
+mod logs;
 
 // Where a hypothesis came from; a former primary has marks of protection left.
-#[derive(Clone, Copy)]
+#[derive(Clone, Copy, Debug, PartialEq, Eq)]
 pub enum Origin {
     Bootstrap,
     Streak,
@@ -12,7 +18,7 @@ pub enum Origin {
 }
 
 // Why a hypothesis left.
-#[derive(Clone, Copy)]
+#[derive(Clone, Copy, Debug, PartialEq, Eq)]
 pub enum Cause {
     Twin,
     Outscored,
@@ -39,11 +45,4 @@ pub struct SwitchRecord {
     pub from_dit_ms: f32,
     pub to_dit_ms: f32,
     pub applied: bool,
-}
-
-// The place of the best score found so far, and that score.
-#[derive(Clone, Copy)]
-pub enum Best {
-    Unfound,
-    Found(usize, f32),
 }

@@ -1,18 +1,16 @@
 -- What the test of a challenger says, and that a fit one passes it. Assumes nothing.
 use mathlib.Core.Path.{◌≡◌, refl, ap, sym, ◌∙◌, subst}
-use mathlib.Core.Bool.{Bool, true, false, not, cond, ◌&&◌, ◌||◌, beq, false≢true}
+use mathlib.Core.Bool.{Bool, true, false, not, ◌&&◌, ◌||◌, beq, false≢true}
 use Prim.Native.Nat.{ℕ, zero, suc, ◌*◌, ◌^◌, ◌+◌}
 use lib.Dec.{T, eqb, eqb→eq, ltb}
 use lib.IntN.{ℤ, pos, negsuc}
 use lib.Ieee.{Float, nan, inf, fin, Format, binary32, prec, emax, low, up, down, odd, units, round, fits, eq, is_nan}
-use lib.Ieee.Bits.{is_true}
 use lib.Ieee.Fits.{round-fits, nan-fits, down_pos, round_is, eq→eqb}
 use lib.Ieee.Positive.{positive}
 use Rattle.numbers.specs.Log.{ln_of, scaled, fixed}
 use Rattle.order.specs.Order.{larger, negative}
 use Rattle.ranges.specs.Settings.{standard}
 use Rattle.ranges.specs.Limits.{nought, score_min}
-use Rattle.ranges.specs.Interval.{In, within}
 use Rattle.ranges.proofs.Compare.{passed, and_taken, and_left, in_within, within_in}
 use Rattle.ranges.proofs.Own.{value_unique}
 use Rattle.tracker.specs.Sound as Tracking
@@ -54,17 +52,22 @@ same_is (fin s m e) (fin t n d) p q h =
     let b = n * up d * down e in
     let k = both (eqb a b && (beq s t || eqb a 0)) (beq s t) h in
     let v = eqb→eq a b (both (eqb a b) (beq s t || eqb a 0) k.0).0 in
-    value_unique binary32 (fin s m e) (fin t n d) s (m * up e) (down e) (down_pos e) p q (refl, refl) (sym (beq_is s t k.1), sym v)
+    value_unique binary32 (fin s m e) (fin t n d) s (m * up e) (down e) (down_pos e) p q (
+      refl,
+      refl,
+    ) (sym (beq_is s t k.1), sym v)
 
 -- above zero there is one sign
-pub positive_is : (x y : Float) → T (fits binary32 x) → T (fits binary32 y) → T (positive x) → T (positive y) → eq x y ≡ true → x ≡ y
+pub positive_is : (x y : Float) → T (fits binary32 x) → T (fits binary32 y) → T (positive x) → T (positive y) → eq x y
+    ≡ true → x ≡ y
 positive_is nan y p q a b e = absurd a
 positive_is (inf s) y p q a b e = absurd a
 positive_is (fin true m d) y p q a b e = absurd a
 positive_is (fin false m d) nan p q a b e = absurd b
 positive_is (fin false m d) (inf t) p q a b e = absurd b
 positive_is (fin false m d) (fin true n c) p q a b e = absurd b
-positive_is (fin false m d) (fin false n c) p q a b e = same_is (fin false m d) (fin false n c) p q (join (eq (fin false m d) (fin false n c)) true (passed e) tt)
+positive_is (fin false m d) (fin false n c) p q a b e =
+    same_is (fin false m d) (fin false n c) p q (join (eq (fin false m d) (fin false n c)) true (passed e) tt)
 
 pub same_self : (x : Float) → T (not (is_nan x)) → T (same x x)
 unfolding eq is_nan
@@ -73,9 +76,11 @@ same_self (inf s) p = join (beq s s) (beq s s) (beq_self s) (beq_self s)
 same_self (fin s m e) p =
     let a = m * up e * down e in
     join (eqb a a && (beq s s || eqb a 0)) (beq s s)
-    (join (eqb a a) (beq s s || eqb a 0) (eq→eqb {a = a} {b = a} refl) (left (beq s s) (eqb a 0) (beq_self s))) (beq_self s)
+    (join (eqb a a) (beq s s || eqb a 0) (eq→eqb {a = a} {b = a} refl) (left (beq s s) (eqb a 0) (beq_self s)))
+    (beq_self s)
 
-pub agree : (a b : Float) (r s : Bool) → T (fits binary32 a) → T (fits binary32 b) → eq a b ≡ true → r ≡ negative a → s ≡ negative b → (beq r s ≡ same a b) × (beq r s ≡ true → a ≡ b)
+pub agree : (a b : Float) (r s : Bool) → T (fits binary32 a) → T (fits binary32 b) → eq a b ≡ true → r ≡ negative a → s
+    ≡ negative b → (beq r s ≡ same a b) × (beq r s ≡ true → a ≡ b)
 agree a b r s f g e p q = let k : beq r s ≡ same a b = rw (e, p, q) in (k, λ t. same_is a b f g (passed (sym k ∙ t)))
 
 pub differ : (a b : Float) → eq a b ≡ false → (false ≡ same a b) × (false ≡ true → a ≡ b)
@@ -92,7 +97,9 @@ odd_number d s (suc q) k l = tt
 
 units_number : (f : Format) (s : Bool) (q k : ℕ) → Number (units f s q k)
 unfolding units is_nan
-units_number f s q k = by_cond Number (ltb (q * 2 ^ k) (2 ^ (low f + suc (emax f)))) (odd (suc (prec f)) s q k (low f)) (inf s) (λ e. odd_number (suc (prec f)) s q k (low f)) (λ e. tt)
+units_number f s q k =
+    by_cond Number (ltb (q * 2 ^ k) (2 ^ (low f + suc (emax f)))) (odd (suc (prec f)) s q k (low f)) (inf s)
+    (λ e. odd_number (suc (prec f)) s q k (low f)) (λ e. tt)
 
 round_number : (f : Format) (s : Bool) (a c : ℕ) → Number (round f s a c)
 round_number f s a c = subst Number (sym (round_is f s a c)) (units_number f s _ _)
@@ -141,12 +148,18 @@ module _ (h : TimingHypothesis) where
   abbrev Logs : Bool → Type 0
   Logs r = (r ≡ logs_same h) × (r ≡ true → HoldsLogs h)
 
-  pub logs_agree : (lo hi : Float) (r s : Bool) → lo ≡ ln_dit (view_hyp h).tracker → hi ≡ ln_dah (view_hyp h).tracker → (r ≡ same h.ln_lo lo) × (r ≡ true → h.ln_lo ≡ lo) → r ≡ true → (s ≡ same h.ln_hi hi) × (s ≡ true → h.ln_hi ≡ hi) → Logs s
+  pub logs_agree : (lo hi : Float) (r s : Bool) → lo ≡ ln_dit (view_hyp h).tracker → hi ≡ ln_dah (view_hyp h).tracker →
+      (r ≡ same h.ln_lo lo) × (r ≡ true → h.ln_lo ≡ lo) → r ≡ true → (s ≡ same h.ln_hi hi) × (s ≡ true → h.ln_hi ≡ hi) →
+      Logs s
   logs_agree lo hi r s a b c d e =
-      let m = (view_hyp h).tracker in
-      (e.0 ∙ ap (same h.ln_hi) b ∙ and_taken (same h.ln_lo (ln_dit m)) (same h.ln_hi (ln_dah m)) (ap (same h.ln_lo) (sym a) ∙ sym c.0 ∙ d), λ t. record { lo = c.1 d ∙ a; hi = e.1 t ∙ b })
+      let m = (view_hyp h).tracker in (
+        e.0 ∙ ap (same h.ln_hi) b
+            ∙ and_taken (same h.ln_lo (ln_dit m)) (same h.ln_hi (ln_dah m)) (ap (same h.ln_lo) (sym a) ∙ sym c.0 ∙ d),
+        λ t. record { lo = c.1 d ∙ a; hi = e.1 t ∙ b },
+      )
 
-  pub logs_differ : (lo : Float) (r : Bool) → lo ≡ ln_dit (view_hyp h).tracker → r ≡ same h.ln_lo lo → r ≡ false → Logs false
+  pub logs_differ : (lo : Float) (r : Bool) → lo ≡ ln_dit (view_hyp h).tracker → r ≡ same h.ln_lo lo → r ≡ false →
+      Logs false
   logs_differ lo r a c d =
       let m = (view_hyp h).tracker in
       let e : same h.ln_lo (ln_dit m) ≡ false = ap (same h.ln_lo) (sym a) ∙ sym c ∙ d in
@@ -156,7 +169,8 @@ module _ (h : TimingHypothesis) where
   Tested r = (r ≡ hyp_sound standard h) × (r ≡ true → Fit h)
 
   -- the test, from what it found
-  pub all_hold : (r s : Bool) → sounds ≡ true → h.tracker.pair.ready ≡ true → Logs r → r ≡ true → s ≡ scores_sound h → Tested s
+  pub all_hold : (r s : Bool) → sounds ≡ true → h.tracker.pair.ready ≡ true → Logs r → r ≡ true → s ≡ scores_sound h →
+      Tested s
   all_hold r s a b c d e =
       let k : logs_same h ≡ true = sym c.0 ∙ d in
       let l : scores_sound h ≡ hyp_sound standard h = rw (a, b, k) in (
@@ -187,9 +201,14 @@ module _ (h : TimingHypothesis) where
   pub fit_sound : Fit h → T (hyp_sound standard h)
   fit_sound f =
       let m = (view_hyp h).tracker in
-      let lo : T (same h.ln_lo (ln_dit m)) = subst (λ (x : Float). T (same x (ln_dit m))) (sym f.ln_lo) (same_self (ln_dit m) (log_number m.pair.lo (dit_log h.tracker f.tracker f.ready))) in
-      let hi : T (same h.ln_hi (ln_dah m)) = subst (λ (x : Float). T (same x (ln_dah m))) (sym f.ln_hi) (same_self (ln_dah m) (log_number m.pair.hi (dah_log h.tracker f.tracker f.ready))) in
+      let lo : T (same h.ln_lo (ln_dit m)) =
+      subst (λ (x : Float). T (same x (ln_dit m))) (sym f.ln_lo)
+      (same_self (ln_dit m) (log_number m.pair.lo (dit_log h.tracker f.tracker f.ready))) in
+      let hi : T (same h.ln_hi (ln_dah m)) =
+      subst (λ (x : Float). T (same x (ln_dah m))) (sym f.ln_hi)
+      (same_self (ln_dah m) (log_number m.pair.hi (dah_log h.tracker f.tracker f.ready))) in
       join sounds later f.tracker
       (join h.tracker.pair.ready (logs_same h && scores_sound h) (passed f.ready)
       (join (logs_same h) (scores_sound h) (join (same h.ln_lo (ln_dit m)) (same h.ln_hi (ln_dah m)) lo hi)
-      (join (score h.score) (score h.gap_score) (in_within score_min nought h.score f.score) (in_within score_min nought h.gap_score f.score_gap))))
+      (join (score h.score) (score h.gap_score) (in_within score_min nought h.score f.score)
+      (in_within score_min nought h.gap_score f.score_gap))))

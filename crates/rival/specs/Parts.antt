@@ -5,9 +5,14 @@ use Rattle.ranges.specs.Settings.{standard}
 use Rattle.ranges.specs.Limits.{nought, score_min}
 use Rattle.ranges.specs.Interval.{In}
 use Rattle.tracker.specs.Sound as Tracking
+use Rattle.bank_model.specs.declared.logs.LogPair.{LogPair}
 use Rattle.bank_model.specs.Scores.{ln_dit, ln_dah}
 use Rattle.rival.specs.declared.TimingHypothesis.{TimingHypothesis}
 use Rattle.rival.specs.View.{view_hyp}
+
+-- the logarithms that it holds
+abbrev pub logs_held : TimingHypothesis → LogPair
+logs_held h = record { lo = h.ln_lo; hi = h.ln_hi }
 
 -- it holds the logarithms of its tracker's centroids
 pub record HoldsLogs (h : TimingHypothesis) : Type 0 where

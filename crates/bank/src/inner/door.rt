@@ -1,123 +1,113 @@
-// Which refusal a call meets, 0 where it meets none (document 01, "Refusals in checking order").
-ghost use Rattle.std.specs.Prelude.{◌≡◌, true, ◌&&◌, T};
+// Which refusal a call meets (document 01, "Refusals in checking order").
+ghost use Rattle.std.specs.Prelude.{◌≡◌, true, ◌&&◌, Ok, IfOk, T};
+ghost use Rattle.refusals.specs.Refusal.{refusal_of};
+ghost use Rattle.marks.specs.Lists.{all_durations};
 ghost use Rattle.ranges.specs.Settings.{standard};
-ghost use Rattle.tracker.specs.Sound as Tracking;
-ghost use Rattle.bank.specs.Sound.{sound};
-ghost use Rattle.bank.specs.Parts.{widest, Sturdy};
-ghost use Rattle.bank.specs.Answers.{full, count_then, choice_then, first_refusal, marks_refusal, clear_refusal, heard_refusal, ready_refusal, switch_refusal};
+ghost use Rattle.bank.specs.Switching.{Chosen};
+ghost use Rattle.bank.specs.Answers.{
+  bank_then,
+  both_then,
+  full,
+  count_then,
+  choice_then,
+  first_refusal,
+  marks_refusal,
+  clear_refusal,
+  heard_refusal,
+  ready_refusal,
+  switch_refusal,
+};
 
-use crate::TimingBank;
 use crate::inner::sound::is_sound;
-use ranges::duration_refusal;
-use tracker::SpeedTracker;
-use tracker::inner::sound as of_tracker;
+use crate::{OpenBank, SoundBank, TimingBank};
+use marks::Marks;
+use ranges::Duration;
+use refusals::Refusal;
+use tracker::{SoundTracker, SpeedTracker};
+
+// Refusal 1 of a bank.
+pub(crate) fn sound(b: TimingBank) -> Result<SoundBank, Refusal>
+    ensures { (refusal_of result ≡ bank_then standard b 0) × IfOk result (λ s. s.bank ≡ b) }
+{
+    if is_sound(&b) {
+        Ok(SoundBank { bank: b })
+    } else {
+        Err(Refusal::UnsoundState)
+    }
+}
+
+// Refusal 1 of a bank and the primary beside it.
+pub(crate) fn sound_both(
+    b: TimingBank,
+    p: SpeedTracker,
+) -> Result<(SoundBank, SoundTracker), Refusal>
+    ensures { (refusal_of result ≡ both_then standard b p 0) × IfOk result (λ s. (s.0.bank ≡ b) × (s.1.tracker ≡ p)) }
+{
+    let s = sound(b)?;
+    let t = SoundTracker::try_from(p)?;
+    Ok((s, t))
+}
 
 // Whether the marks or the gaps can be counted no further.
 pub(crate) fn is_full(marks: u64, gaps: u64) -> bool
     ensures { result ≡ full marks gaps }
 {
-    if 4294967295 <= marks {
-        return true;
-    }
-    4294967295 <= gaps
+    4294967295 <= marks || 4294967295 <= gaps
 }
 
-// Refusal 2, then n.
-pub(crate) fn count_then(b: TimingBank, n: u8) -> u8
-    ensures { result ≡ count_then b n }
+// Refusal 2.
+pub(crate) fn count_on(b: SoundBank) -> Result<OpenBank, Refusal>
+    ensures { (refusal_of result ≡ count_then b.bank 0) × IfOk result (λ o. o.bank.bank ≡ b.bank) }
 {
-    if is_full(b.marks_seen, b.gaps_seen) {
-        2
+    if is_full(b.bank.marks_seen, b.bank.gaps_seen) {
+        Err(Refusal::FullCounts)
     } else {
-        n
+        Ok(OpenBank { bank: b })
     }
 }
 
-// Refusal 1 of a choice beside an unready primary, then n.
-pub(crate) fn choice_then(b: TimingBank, p: SpeedTracker, n: u8) -> u8
-    ensures { result ≡ choice_then b p n }
+// Refusal 1 of a choice beside an unready primary.
+pub(crate) fn ready_to_choose(b: SoundBank, p: SpeedTracker) -> Result<(), Refusal>
+    ensures { (refusal_of result ≡ choice_then b.bank p 0) × IfOk result (λ u. Chosen b.bank p) }
 {
-    if b.has_pending {
-        let q = p.pair;
-        if q.ready {
-            return n;
-        }
-        return 1;
+    if b.bank.pending.is_some() && !p.pair.ready {
+        Err(Refusal::UnsoundState)
+    } else {
+        Ok(())
     }
-    n
 }
 
-// Whether a bank and the primary beside it are sound.
-pub(crate) fn are_sound(b: TimingBank, p: SpeedTracker) -> bool
-    ensures { (result ≡ (sound standard widest b && Tracking.sound standard p)) × (result ≡ true → Sturdy b) }
+// The refusal of the first bad mark.
+pub(crate) fn good_marks(marks: &[f32]) -> Result<(), Refusal>
+    ensures { (refusal_of result ≡ first_refusal marks.now) × IfOk result (λ u. T (all_durations marks.now)) }
 {
-    if is_sound(b) {
-        return of_tracker::is_sound(p);
+    for x in marks {
+        Duration::try_from(*x)?;
     }
-    false
-}
-
-// The refusal of the first bad mark, or 0.
-pub(crate) fn first_refusal(marks: &[f32]) -> u8
-    ensures { result ≡ first_refusal marks.now }
-{
-    let mut i: usize = 0;
-    while i < marks.len() {
-        let n = duration_refusal(marks[i]);
-        i += 1;
-        if n != 0 {
-            return n;
-        }
-    }
-    0
+    Ok(())
 }
 
 // Refusals 4 to 7 of a list of marks.
-pub(crate) fn marks_refusal(marks: &[f32]) -> u8
-    ensures { result ≡ marks_refusal marks.now }
+pub(crate) fn good_list(marks: &[f32]) -> Result<Marks<'_>, Refusal>
+    ensures { (refusal_of result ≡ marks_refusal marks.now) × IfOk result (λ m. m.at.now ≡ marks.now) }
 {
-    if marks.len() <= 12 {
-        return first_refusal(marks);
+    if 12 < marks.len() {
+        return Err(Refusal::LongList);
     }
-    4
-}
-
-// Refusals 1 and 2.
-pub(crate) fn clear_call(b: TimingBank) -> u8
-    ensures { (result ≡ clear_refusal standard b) × (result ≡ 0 → Sturdy b) }
-{
-    if is_sound(b) {
-        return count_then(b, 0);
-    }
-    1
-}
-
-// Refusals 1, 2 and 5 to 7.
-pub(crate) fn heard_call(b: TimingBank, p: SpeedTracker, d: f32) -> u8
-    ensures { (result ≡ heard_refusal standard b p d) × (result ≡ 0 → Sturdy b) }
-{
-    if are_sound(b, p) {
-        return count_then(b, duration_refusal(d));
-    }
-    1
-}
-
-// Refusals 1, 2 and 4 to 7.
-pub(crate) fn ready_call(b: TimingBank, p: SpeedTracker, marks: &[f32]) -> u8
-    ensures { (result ≡ ready_refusal standard b p marks.now) × (result ≡ 0 → Sturdy b) }
-{
-    if are_sound(b, p) {
-        return count_then(b, marks_refusal(marks));
-    }
-    1
+    good_marks(marks)?;
+    Ok(Marks { at: marks })
 }
 
 // Refusals 1 and 2 of a switch.
-pub(crate) fn switch_call(b: TimingBank, p: SpeedTracker) -> u8
-    ensures { (result ≡ switch_refusal standard b p) × (result ≡ 0 → Sturdy b) }
+pub(crate) fn switch_call(
+    b: TimingBank,
+    p: SpeedTracker,
+) -> Result<(SoundBank, SoundTracker), Refusal>
+    ensures { (refusal_of result ≡ switch_refusal standard b p)
+        × IfOk result (λ s. (s.0.bank ≡ b) × ((s.1.tracker ≡ p) × Chosen b p)) }
 {
-    if are_sound(b, p) {
-        return choice_then(b, p, count_then(b, 0));
-    }
-    1
+    let (s, t) = sound_both(b, p)?;
+    ready_to_choose(s, p)?;
+    count_on(s)?;
+    Ok((s, t))
 }

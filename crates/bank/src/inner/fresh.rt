@@ -1,11 +1,11 @@
 // A bank with nothing in it (the Rust's `new`).
 ghost use Rattle.std.specs.Prelude.{◌≡◌, ◌≤◌};
+ghost use Rattle.bank_model.specs.Departures.{widest};
 ghost use Rattle.bank_model.specs.Steps.{fresh_bank};
 ghost use Rattle.bank.specs.View.{view};
-ghost use Rattle.bank.specs.Parts.{widest, Sturdy};
 ghost use Rattle.bank.specs.Answers.{vacant};
 
-use crate::{Challenger, Place, TimingBank};
+use crate::{SoundBank, TimingBank};
 use bank_model::{Origin, SwitchRecord};
 use rival::TimingHypothesis;
 use tracker::SpeedTracker;
@@ -28,14 +28,6 @@ pub(crate) fn vacant() -> TimingHypothesis
     }
 }
 
-// The answer that there is no challenger.
-pub(crate) fn no_challenger(place: Place) -> Challenger
-    ensures { (result.place ≡ place) × (result.hypothesis ≡ vacant) }
-{
-    let hypothesis = vacant();
-    Challenger { place, hypothesis }
-}
-
 // What stands in a place of the log that no record has.
 pub(crate) fn unlogged() -> SwitchRecord {
     SwitchRecord {
@@ -47,33 +39,29 @@ pub(crate) fn unlogged() -> SwitchRecord {
 }
 
 // A fresh bank; width 0 counts as 1.
-pub fn fresh(width: usize, switching: bool) -> TimingBank
+pub fn fresh(width: usize, switching: bool) -> SoundBank
     requires { width ≤ widest }
-    ensures { (view result ≡ fresh_bank width switching) × Sturdy result }
+    ensures { view result.bank ≡ fresh_bank width switching }
 {
-    let h = vacant();
-    let e = unlogged();
-    TimingBank {
-        width: if 1 <= width { width } else { 1 },
+    let bank = TimingBank {
+        width: width.max(1),
         switching,
         primary_score: 0.0,
         primary_gap_score: 0.0,
-        challengers: [h; 8],
+        challengers: [vacant(); 8],
         challengers_len: 0,
         streak: [0.0; 4],
         streak_len: 0,
         streak_gaps: [0.0; 4],
         streak_gaps_len: 0,
-        has_side: false,
-        streak_side: false,
-        has_last_gap: false,
-        last_gap: 0.0,
+        streak_side: None,
+        last_gap: None,
         marks_seen: 0,
         gaps_seen: 0,
-        has_pending: false,
-        pending: 0,
-        log: [e; 16],
+        pending: None,
+        log: [unlogged(); 16],
         log_len: 0,
         started: 0,
-    }
+    };
+    SoundBank { bank }
 }

@@ -1,26 +1,26 @@
 // The streak of marks on one side, and the candidate that it makes (the Rust's `step_streak`).
-ghost use Rattle.std.specs.Prelude.{◌≡◌, ◌<◌, true, T, [], ◌∷◌, ◌++◌};
+ghost use Rattle.std.specs.Prelude.{◌≡◌, ◌<◌};
 ghost use Rattle.std.specs.Float.Ieee.{le};
 ghost use Rattle.ranges.specs.Settings.{standard};
-ghost use Rattle.ranges.specs.Limits.{duration_min, duration_max};
-ghost use Rattle.ranges.specs.Interval.{In};
 ghost use Rattle.pair.specs.Model.{view_pair};
 ghost use Rattle.pair.specs.Lock.{boundary};
 ghost use Rattle.tracker.specs.Parts.{other};
-ghost use Rattle.tracker.specs.Sound.{sound};
 ghost use Rattle.bank_model.specs.Model.{with_evidence};
-ghost use Rattle.bank_model.specs.Steps.{one, goes_on, streak_on, emptied, candidate_at, streak_at};
-ghost use Rattle.bank.specs.View.{given, view};
-ghost use Rattle.bank.specs.Parts.{GapIn, with_streak, Sturdy, Left};
+ghost use Rattle.bank_model.specs.Steps.{goes_on, streak_on, emptied, candidate_at, streak_at};
+ghost use Rattle.bank.specs.View.{before, view, told};
+ghost use Rattle.bank.specs.Beats.{Runs};
 
 use crate::inner::leave::unchanged;
 use crate::inner::spawn::spawn;
-use crate::{Changed, TimingBank};
-use bank_model::Origin;
-use bank_model::inner::scores::{duplicates, log_of};
+use crate::{Changed, Run, SoundBank};
+use bank_model::inner::scores::{centroid_logs, duplicates};
+use bank_model::{LogPair, Origin};
+use marks::Marks;
 use numbers::root::BinaryFloat;
 use pair::ClusterPair;
-use tracker::inner::rivals::{Alternative, from_marks, three_to_one_alternative};
+use ranges::Duration;
+use tracker::SoundTracker;
+use tracker::inner::rivals::{from_marks, three_to_one_alternative};
 
 // Whether the mark d is at the boundary of the pair or above it.
 pub fn is_high(p: ClusterPair, d: f32) -> bool
@@ -30,127 +30,120 @@ pub fn is_high(p: ClusterPair, d: f32) -> bool
 }
 
 // Whether a mark on this side goes on with the streak.
-pub(crate) fn goes_on(b: TimingBank, side: bool) -> bool
-    requires { Sturdy b }
-    ensures { result ≡ goes_on (view b).evidence side }
+pub(crate) fn goes_on(b: SoundBank, side: bool) -> bool
+    ensures { result ≡ goes_on (view b.bank).evidence side }
 {
-    if b.has_side {
-        if b.streak_side == side {
-            return b.streak_len < 4;
-        }
-    }
-    false
+    b.bank.streak_side == Some(side) && b.bank.streak_len < 4
 }
 
-// The gap before the mark, where there is one, comes to the streak's gaps; the mark comes to the streak.
-pub(crate) fn extend(b: TimingBank, side: bool, d: f32, has_gap: bool, gap: f32) -> TimingBank
-    requires sturdy { Sturdy b }
-    requires fact { In duration_min duration_max d }
-    requires gap_in { GapIn has_gap gap }
-    requires streak_len_bound { b.streak_len < 4 }
-    ensures { (view result ≡ with_streak (view b) side ((view b).evidence.streak ++ (d ∷ [])) ((view b).evidence.gaps ++ one (given has_gap gap))) × Sturdy result }
+// The held gap, if there is one.
+pub(crate) fn held_gap(b: SoundBank) -> Option<Duration>
+    ensures { before result ≡ (view b.bank).evidence.last_gap }
 {
-    let mut c = b;
-    let n = b.streak_len;
-    c.streak[n] = d;
-    c.streak_len = n + 1;
-    c.has_side = true;
-    c.streak_side = side;
-    if has_gap {
-        let m = b.streak_gaps_len;
-        c.streak_gaps[m] = gap;
-        c.streak_gaps_len = m + 1;
-        return c;
+    match b.bank.last_gap {
+        Some(ms) => Some(Duration { ms }),
+        None => None,
     }
-    c
 }
 
-// The mark begins a streak on its side.
-pub(crate) fn begin(b: TimingBank, side: bool, d: f32) -> TimingBank
-    requires sturdy { Sturdy b }
-    requires fact { In duration_min duration_max d }
-    ensures { (view result ≡ with_streak (view b) side (d ∷ []) []) × Sturdy result }
+// The streak after the mark d, before which was the gap: both come to it where it goes on; else the mark begins it.
+pub(crate) fn run_on(b: SoundBank, side: bool, d: Duration, gap: Option<Duration>) -> Run
+    ensures { Runs (view b.bank).evidence side d.ms (before gap) result }
 {
-    let mut c = b;
-    c.streak[0] = d;
-    c.streak_len = 1;
-    c.streak_gaps_len = 0;
-    c.has_side = true;
-    c.streak_side = side;
-    c
+    let mut marks = b.bank.streak;
+    let mut gaps = b.bank.streak_gaps;
+    if !goes_on(b, side) {
+        marks[0] = d.ms;
+        return Run {
+            marks,
+            marks_len: 1,
+            gaps,
+            gaps_len: 0,
+        };
+    }
+    let n = b.bank.streak_len;
+    let m = b.bank.streak_gaps_len;
+    marks[n] = d.ms;
+    if let Some(g) = gap {
+        gaps[m] = g.ms;
+        return Run {
+            marks,
+            marks_len: n + 1,
+            gaps,
+            gaps_len: m + 1,
+        };
+    }
+    Run {
+        marks,
+        marks_len: n + 1,
+        gaps,
+        gaps_len: m,
+    }
 }
 
-// The streak after the mark.
-pub(crate) fn grow(b: TimingBank, side: bool, d: f32, has_gap: bool, gap: f32) -> TimingBank
-    requires sturdy { Sturdy b }
-    requires fact { In duration_min duration_max d }
-    requires gap_in { GapIn has_gap gap }
-    ensures { (view result ≡ with_evidence (view b) (streak_on (view b).evidence side d (given has_gap gap))) × Sturdy result }
+// The same, in the bank.
+pub(crate) fn grow(b: SoundBank, side: bool, d: Duration, gap: Option<Duration>) -> SoundBank
+    ensures { view result.bank ≡ with_evidence (view b.bank) (streak_on (view b.bank).evidence side d.ms (before gap)) }
 {
-    if goes_on(b, side) {
-        return extend(b, side, d, has_gap, gap);
-    }
-    begin(b, side, d)
+    let r = run_on(b, side, d, gap);
+    let mut c = b.bank;
+    // the borrow check asks for a variable between two array fields
+    let marks = r.marks;
+    let gaps = r.gaps;
+    c.streak = marks;
+    c.streak_len = r.marks_len;
+    c.streak_gaps = gaps;
+    c.streak_gaps_len = r.gaps_len;
+    c.streak_side = Some(side);
+    SoundBank { bank: c }
 }
 
 // The streak is empty again; the side is kept.
-pub(crate) fn empty(b: TimingBank) -> TimingBank
-    requires { Sturdy b }
-    ensures { (view result ≡ with_evidence (view b) (emptied (view b).evidence)) × Sturdy result }
+pub(crate) fn empty(b: SoundBank) -> SoundBank
+    ensures { view result.bank ≡ with_evidence (view b.bank) (emptied (view b.bank).evidence) }
 {
-    let mut c = b;
+    let mut c = b.bank;
     c.streak_len = 0;
     c.streak_gaps_len = 0;
-    c
+    SoundBank { bank: c }
 }
 
-// A tracker from the streak, turned to its three-to-one reading where it duplicates the primary.
-pub(crate) fn candidate(b: TimingBank, lo: f32, hi: f32) -> Alternative
-    requires sturdy { Sturdy b }
-    requires streak_len_nonzero { 0 < b.streak_len }
-    ensures { (other result.is result.tracker ≡ candidate_at standard lo hi (view b).evidence) × T (sound standard result.tracker) }
+// A tracker from the streak, turned to its three-to-one reading where it duplicates the primary of the logarithms p.
+pub(crate) fn candidate(b: SoundBank, p: LogPair) -> Option<SoundTracker>
+    requires { 0 < b.bank.streak_len }
+    ensures { other result ≡ candidate_at standard p.lo p.hi (view b.bank).evidence }
 {
-    let marks = b.streak;
-    let gaps = b.streak_gaps;
-    let n = b.streak_len;
-    let m = b.streak_gaps_len;
-    let t = from_marks(&marks[..n], &gaps[..m]);
-    let q = t.pair;
-    let t_lo = log_of(q.lo);
-    let t_hi = log_of(q.hi);
-    if duplicates(t_lo, t_hi, lo, hi) {
+    let marks = Marks {
+        at: &b.bank.streak[..b.bank.streak_len],
+    };
+    let gaps = Marks {
+        at: &b.bank.streak_gaps[..b.bank.streak_gaps_len],
+    };
+    let t = from_marks(marks, gaps);
+    if duplicates(centroid_logs(t.tracker.pair.lo, t.tracker.pair.hi), p) {
         return three_to_one_alternative(t);
     }
-    Alternative {
-        is: true,
-        tracker: t,
-    }
+    Some(t)
 }
 
-// A mark of the streak, and the candidate that four make.
+// A mark of the streak, and the candidate that four make, beside a primary of the logarithms p.
 pub(crate) fn step_streak(
-    b: TimingBank,
+    b: SoundBank,
     side: bool,
-    lo: f32,
-    hi: f32,
-    d: f32,
-    has_gap: bool,
-    gap: f32,
+    p: LogPair,
+    d: Duration,
+    gap: Option<Duration>,
 ) -> Changed
-    requires sturdy { Sturdy b }
-    requires fact { In duration_min duration_max d }
-    requires gap_in { GapIn has_gap gap }
-    ensures { Left result (streak_at standard (view b) lo hi side d (given has_gap gap)) }
+    ensures { told result ≡ streak_at standard (view b.bank) p.lo p.hi side d.ms (before gap) }
 {
-    let c = grow(b, side, d, has_gap, gap);
-    if c.streak_len < 4 {
+    let c = grow(b, side, d, gap);
+    if c.bank.streak_len < 4 {
         return unchanged(c);
     }
-    let k = candidate(c, lo, hi);
+    let k = candidate(c, p);
     let e = empty(c);
-    if k.is {
-        let t = k.tracker;
-        return spawn(e, lo, hi, t, Origin::Streak);
+    match k {
+        Some(t) => spawn(e, p, t, Origin::Streak),
+        None => unchanged(e),
     }
-    unchanged(e)
 }

@@ -8,7 +8,7 @@ use crate::Origin;
 pub fn up_one(n: u32) -> u32
     ensures { result ≡ up1 n }
 {
-    if n < 4294967295 { n + 1 } else { n }
+    n.saturating_add(1)
 }
 
 // Whether marks of protection are left.
@@ -17,8 +17,7 @@ pub fn is_retained(o: Origin) -> bool
 {
     match o {
         Origin::FormerPrimary { retain_marks } => 0 < retain_marks,
-        Origin::Bootstrap => false,
-        Origin::Streak => false,
+        _ => false,
     }
 }
 
@@ -27,16 +26,9 @@ pub fn tick(o: Origin) -> Origin
     ensures { result ≡ ticked o }
 {
     match o {
-        Origin::Bootstrap => Origin::Bootstrap,
-        Origin::Streak => Origin::Streak,
-        Origin::FormerPrimary { retain_marks } => {
-            if 0 < retain_marks {
-                Origin::FormerPrimary {
-                    retain_marks: retain_marks - 1,
-                }
-            } else {
-                Origin::FormerPrimary { retain_marks: 0 }
-            }
-        }
+        Origin::FormerPrimary { retain_marks } => Origin::FormerPrimary {
+            retain_marks: retain_marks.saturating_sub(1),
+        },
+        _ => o,
     }
 }

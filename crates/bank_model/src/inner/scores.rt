@@ -6,8 +6,10 @@ ghost use Rattle.order.specs.Order.{larger};
 ghost use Rattle.bank_model.specs.Constants.{milli};
 ghost use Rattle.bank_model.specs.Scores.{log_of, fit, mark_fit, gap_fit, decayed, near, twins};
 
-use numbers::inner::{Logs, ln_of, ln_two};
-use order::{abs32, max32};
+use crate::{LogPair, Measured};
+use numbers::inner::{ln_of, ln_two};
+use order::max32;
+use ranges::Duration;
 
 const FLOOR: f32 = -3.0;
 
@@ -26,19 +28,29 @@ pub fn log_of(v: f32) -> f32
 }
 
 // The logarithms of two centroids.
-pub fn centroid_logs(lo: f32, hi: f32) -> Logs
+pub fn centroid_logs(lo: f32, hi: f32) -> LogPair
     requires { T (positive (larger lo milli)) × T (positive (larger hi milli)) }
-    ensures { (result.a ≡ log_of lo) × (result.b ≡ log_of hi) }
+    ensures { (result.lo ≡ log_of lo) × (result.hi ≡ log_of hi) }
 {
-    ln_two(max32(lo, 0.001), max32(hi, 0.001))
+    let k = ln_two(max32(lo, 0.001), max32(hi, 0.001));
+    LogPair { lo: k.a, hi: k.b }
+}
+
+// A gap with its logarithm, and that of a unit.
+#[derive(Clone, Copy)]
+pub struct GapLogs {
+    pub gap: Measured,
+    pub unit: f32,
 }
 
 // The logarithms of a gap and of a unit.
-pub fn gap_logs(d: f32, unit: f32) -> Logs
-    requires { T (positive d) × T (positive (larger unit milli)) }
-    ensures { (result.a ≡ ln_of d) × (result.b ≡ log_of unit) }
+pub fn gap_logs(d: Duration, unit: f32) -> GapLogs
+    requires { T (positive (larger unit milli)) }
+    ensures { (result.gap.dur.ms ≡ d.ms) × (result.unit ≡ log_of unit) }
 {
-    ln_two(d, max32(unit, 0.001))
+    let k = ln_two(d.ms, max32(unit, 0.001));
+    let gap = Measured { dur: d, ln: k.a };
+    GapLogs { gap, unit: k.b }
 }
 
 // How well x fits the centre c.
@@ -50,10 +62,10 @@ pub fn fit(sigma: f32, x: f32, c: f32) -> f32
 }
 
 // How well a mark of logarithm x fits two centroids.
-pub fn mark_ll(x: f32, ln_lo: f32, ln_hi: f32) -> f32
-    ensures { result ≡ mark_fit x ln_lo ln_hi }
+pub fn mark_ll(x: f32, c: LogPair) -> f32
+    ensures { result ≡ mark_fit x c.lo c.hi }
 {
-    max32(max32(FLOOR, fit(0.25, x, ln_lo)), fit(0.25, x, ln_hi))
+    max32(max32(FLOOR, fit(0.25, x, c.lo)), fit(0.25, x, c.hi))
 }
 
 // How well a gap of logarithm x fits a unit of logarithm u.
@@ -76,12 +88,12 @@ pub fn decayed(score: f32, l: f32) -> f32
 pub fn near(a: f32, b: f32) -> bool
     ensures { result ≡ near a b }
 {
-    abs32(a - b) < 0.25
+    (a - b).abs() < 0.25
 }
 
-// Whether both pairs of logarithms do.
-pub fn duplicates(a_lo: f32, a_hi: f32, b_lo: f32, b_hi: f32) -> bool
-    ensures { result ≡ twins a_lo a_hi b_lo b_hi }
+// Whether both of two pairs of logarithms do.
+pub fn duplicates(a: LogPair, b: LogPair) -> bool
+    ensures { result ≡ twins a.lo a.hi b.lo b.hi }
 {
-    near(a_lo, b_lo) && near(a_hi, b_hi)
+    near(a.lo, b.lo) && near(a.hi, b.hi)
 }

@@ -17,10 +17,7 @@ const LEAST: f32 = -30.0;
 pub(crate) fn is_same(a: f32, b: f32) -> bool
     ensures { (result ≡ same a b) × (result ≡ true → a ≡ b) }
 {
-    if a == b {
-        return negative32(a) == negative32(b);
-    }
-    false
+    a == b && negative32(a) == negative32(b)
 }
 
 // Whether a score lies from -30 to 0.
@@ -35,38 +32,22 @@ pub(crate) fn has_logs(h: TimingHypothesis) -> bool
     requires { T (Tracking.sound standard h.tracker) × (h.tracker.pair.ready ≡ true) }
     ensures { (result ≡ logs_same h) × (result ≡ true → HoldsLogs h) }
 {
-    let t = h.tracker;
-    let p = t.pair;
+    let p = h.tracker.pair;
     let lo = log_of(p.lo);
     let hi = log_of(p.hi);
-    if is_same(h.ln_lo, lo) {
-        return is_same(h.ln_hi, hi);
-    }
-    false
+    is_same(h.ln_lo, lo) && is_same(h.ln_hi, hi)
 }
 
 // Whether both scores of a challenger are scores.
 pub(crate) fn has_scores(h: TimingHypothesis) -> bool
     ensures { result ≡ scores_sound h }
 {
-    if is_score(h.score) {
-        return is_score(h.gap_score);
-    }
-    false
+    is_score(h.score) && is_score(h.gap_score)
 }
 
 // Whether a challenger is sound.
 pub fn is_hyp_sound(h: TimingHypothesis) -> bool
     ensures { (result ≡ hyp_sound standard h) × (result ≡ true → Fit h) }
 {
-    let t = h.tracker;
-    if is_sound(t) {
-        let p = t.pair;
-        if p.ready {
-            if has_logs(h) {
-                return has_scores(h);
-            }
-        }
-    }
-    false
+    is_sound(h.tracker) && h.tracker.pair.ready && has_logs(h) && has_scores(h)
 }

@@ -1,20 +1,11 @@
--- `bank::TimingBank::challenger` meets its contract. Assumes nothing.
-use Rattle.std.proofs.Common.{sym, ap, ◌∙◌, arith}
-use Rattle.bank.proofs.Answering.{shows, shows_not, held, gone, told_of}
-use Rattle.bank.specs.Answers.{to_told}
+use Rattle.std.proofs.Common.{Ok, List, take, ap, ◌∙◌}
+use Rattle.bank.specs.declared.TimingBank.{TimingBank}
+use Rattle.rival.specs.declared.TimingHypothesis.{TimingHypothesis}
+use Rattle.bank.specs.Answers.{of_shown}
+use Rattle.bank.proofs.Answering.{shows}
 use Rattle.bank.proofs.TimingBank.challenger.Goals as goal
 
-pub offset_bounds-self-i : goal.offset_bounds-self-i
-offset_bounds-self-i c = let s = (c.is_sound.ensures.1 c.if-is_sound.true) in let k = s.steady.crew.few in let t = c.if-i-self.true in omega arith
-
-pub bounds-self-i : goal.bounds-self-i
-bounds-self-i c = let s = (c.is_sound.ensures.1 c.if-is_sound.true) in let k = s.steady.crew.few in let t = c.if-i-self.true in omega arith
-
-pub returns-then-i-self : goal.returns-then-i-self
-returns-then-i-self c = let s = (c.is_sound.ensures.1 c.if-is_sound.true) in let k = s.steady.crew.few in let l = s.steady.crew.long in ap to_told (shows c.args.self _ _ (sym c.is_sound.ensures.0 ∙ c.if-is_sound.true) (held c.args.self.challengers_len c.args.self.challengers _ _ c.if-i-self.true (omega arith)))
-
-pub returns-then-is_sound : goal.returns-then-is_sound
-returns-then-is_sound c = let s = (c.is_sound.ensures.1 c.if-is_sound.true) in let k = s.steady.crew.few in let l = s.steady.crew.long in told_of c.no_challenger.result _ _ c.no_challenger.ensures ∙ ap to_told (shows c.args.self _ _ (sym c.is_sound.ensures.0 ∙ c.if-is_sound.true) (gone c.args.self.challengers_len c.args.self.challengers _ c.if-i-self.false (omega arith)))
-
 pub returns : goal.returns
-returns c = told_of c.no_challenger-2.result _ _ c.no_challenger-2.ensures ∙ ap to_told (shows_not c.args.self _ (sym c.is_sound.ensures.0 ∙ c.if-is_sound.false))
+returns c =
+    let l : TimingBank → List TimingHypothesis = λ b. take b.challengers_len b.challengers in
+    ap (λ o. of_shown (Ok o)) c.nth.ensures ∙ shows c.args.self.now c.in_ok-s.s c.in_ok-s.ensures.1 l c.args.i

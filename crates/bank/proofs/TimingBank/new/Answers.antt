@@ -1,4 +1,3 @@
--- `bank::TimingBank::new` meets its contract. Assumes nothing.
 use Rattle.bank.proofs.Answering.{begins, begins_not}
 use Rattle.bank.proofs.TimingBank.new.Goals as goal
 

@@ -1,13 +1,19 @@
--- `bank::TimingBank::on_mark` meets its contract. Assumes nothing.
-use Rattle.bank.proofs.Answering.{answers, answers_not}
-use Rattle.bank.proofs.Refusing.{heard_needs}
+use Rattle.std.proofs.Common.{◌≡◌, Err, ◌∙◌, rules}
+use Rattle.bank.proofs.Calling.{heard_passed, answered, unanswered}
 use Rattle.bank.proofs.TimingBank.on_mark.Goals as goal
 
-pub on_mark-requires : goal.on_mark-requires
-on_mark-requires c = let the = heard_needs c.args.self c.args.primary c.args.dur_ms _ c.heard_call-n.ensures c.if-n-eq0.true in record { sturdy = the.0; t = the.1.0; t_2 = the.1.1 }
-
-pub returns-then-n-eq0 : goal.returns-then-n-eq0
-returns-then-n-eq0 c = answers c.args.self _ _ c.heard_call-n.ensures.0 _ c.on_mark.result c.if-n-eq0.true c.on_mark.ensures
+pub returns-in_err-d : goal.returns-in_err-d
+returns-in_err-d c =
+    let s = c.in_ok-s.ensures in
+    let a : c.from_residual-in_err-d.result ≡ Err c.in_err-d.field-0.0 = search rules in
+    unanswered c.args.self.now _ _ _ c.in_err-d.field-0.0 a
+    (c.in_err-d.ensures.0
+    ∙ heard_passed _ c.in_ok-s.s.bank s.1.0 c.in_ok-o.ensures.0 c.args.primary s.0 c.args.dur_ms)
 
 pub returns : goal.returns
-returns c = answers_not c.args.self _ _ c.heard_call-n.ensures.0 _ c.unchanged.result c.if-n-eq0.false c.unchanged.ensures
+returns c =
+    let s = c.in_ok-s.ensures in
+    let d = c.in_ok-d.ensures in
+    answered c.args.self.now _ _ c.on_mark-c.result
+    (d.0 ∙ heard_passed _ c.in_ok-s.s.bank s.1.0 c.in_ok-o.ensures.0 c.args.primary s.0 c.args.dur_ms)
+    (rw (c.in_ok-o.ensures.1, s.1.0, s.1.1, d.1) at c.on_mark-c.ensures)

@@ -1,13 +1,11 @@
--- `bank::TimingBank::on_ready` meets its contract. Assumes nothing.
-use Rattle.bank.proofs.Answering.{answers, answers_not}
-use Rattle.bank.proofs.Refusing.{ready_needs}
+use Rattle.std.proofs.Common.{◌∙◌}
+use Rattle.bank.proofs.Calling.{ready_passed, answered}
 use Rattle.bank.proofs.TimingBank.on_ready.Goals as goal
 
-pub on_ready-requires : goal.on_ready-requires
-on_ready-requires c = let the = ready_needs c.args.self c.args.primary _ _ c.ready_call-n.ensures c.if-n-eq0.true in record { sturdy = the.0; t = the.1.0; marks_len_bound = the.1.1.0; all_in = the.1.1.1 }
-
-pub returns-then-n-eq0 : goal.returns-then-n-eq0
-returns-then-n-eq0 c = answers c.args.self _ _ c.ready_call-n.ensures.0 _ c.on_ready.result c.if-n-eq0.true c.on_ready.ensures
-
 pub returns : goal.returns
-returns c = answers_not c.args.self _ _ c.ready_call-n.ensures.0 _ c.unchanged.result c.if-n-eq0.false c.unchanged.ensures
+returns c =
+    let s = c.in_ok-s.ensures in
+    let l = c.in_ok-list.ensures in
+    answered c.args.self.now _ _ c.on_ready-c.result
+    (l.0 ∙ ready_passed _ c.in_ok-s.s.bank s.1.0 c.in_ok-count_on.ensures.0 c.args.primary s.0 c.args.marks.now)
+    (rw (s.1.0, s.1.1, l.1) at c.on_ready-c.ensures)

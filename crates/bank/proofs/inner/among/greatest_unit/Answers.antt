@@ -1,16 +1,14 @@
 use Rattle.std.proofs.Common.{sym}
-use Rattle.bank.proofs.Stock.{room}
-use Rattle.bank.proofs.Lists.{fold_begins, fold_turns, fold_ends}
 use Rattle.bank_model.specs.Steps.{greatest_unit}
+use Rattle.bank.proofs.Lists.{fold_turns, fold_ends}
 use Rattle.bank.proofs.Finds.{unit_step}
 use Rattle.bank.proofs.inner.among.greatest_unit.Goals as goal
 
-pub loop-i-init : goal.loop-i-init
-loop-i-init c = fold_begins _ _ _ _ _ (room _ _ c.requires)
-
-pub loop-i-preserved : goal.loop-i-preserved
-loop-i-preserved c = fold_turns _ _ _ _ _ _ _ _ _ c.loop-i-test.true c.loop-i.invariant (λ r. unit_step _ 0 _ _ _ _ r c.dit_estimate.ensures c.max32-acc.ensures)
+pub loop-h-preserved : goal.loop-h-preserved
+loop-h-preserved c =
+    fold_turns _ _ _ _ _ _ _ _ c.loop-h-test.true c.loop-h.invariant
+    (λ r. unit_step _ 0 _ _ _ _ r c.dit_estimate.ensures c.max32-acc.ensures)
 
 pub returns : goal.returns
 unfolding greatest_unit
-returns c = sym (fold_ends _ _ _ _ _ _ _ c.loop-i-test.false c.loop-i.invariant)
+returns c = sym (fold_ends _ _ _ _ _ _ c.loop-h-test.false c.loop-h.invariant)

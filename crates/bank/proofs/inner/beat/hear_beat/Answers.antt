@@ -1,86 +1,63 @@
--- `bank::inner::beat::hear_beat` meets its contract. Assumes nothing.
-use Rattle.std.proofs.Common.{true, sym, ◌∙◌, rules}
+use Rattle.std.proofs.Common.{true, sym, ◌∙◌}
 use Rattle.ranges.specs.Settings.{standard}
 use Rattle.tracker.specs.Model as Tracked
 use Rattle.bank_model.specs.Steps.{marked}
 use Rattle.bank.specs.View.{view}
-use Rattle.bank.proofs.Leaving.{sift_begins, sift_member, sift_ends, heard_many, few_heard, keeps_heard, room_heard, drops_heard}
-use Rattle.bank.proofs.Padding.{empty_listed}
-use Rattle.bank.proofs.Beating.{beaten_is, few_marks, beat_told}
+use Rattle.bank.proofs.Leaving.{
+  sift_begins,
+  sift_member,
+  sift_told,
+  sift_sturdy,
+  heard_many,
+  few_heard,
+  keeps_heard,
+  room_heard,
+  drops_heard,
+}
+use Rattle.bank.proofs.Hearing.{primary_mark}
+use Rattle.bank.proofs.Beating.{beaten_is, beaten_sturdy, few_marks, beat_heard}
 use Rattle.bank.proofs.inner.beat.hear_beat.Goals as goal
 
 pub loop-i-init : goal.loop-i-init
 loop-i-init c =
-    let a = c.before.before.before.before in
-    let s = a.before in
-    let y = (beaten_is s.args.b s.requires.sturdy.0 (Tracked.view s.args.p) s.args.side s.args.d _ a.struck-k.result.run a.struck-k.ensures.run a.struck-k.ensures.score).1.steady in
-    let n = heard_many (marked standard s.args.d true) _ y in (
-      sift_begins _ _ _ _ _ _ _ n y (empty_listed _ c.nobody-left.ensures) (few_heard _ _ _ y n),
-      (s.requires.t, a.struck-k.ensures.log),
-    )
+    let b = c.args.b.bank in
+    let e = primary_mark (Tracked.view c.args.p) _ _ _ _ _ c.of-m.result b.sturdy.score c.decayed-score.ensures
+    c.mark_ll.ensures c.of-m.ensures c.requires.l_value in
+    let y = beaten_sturdy b.bank b.sturdy (Tracked.view c.args.p) c.args.side c.args.d.ms _
+    c.run_on-run.result (rw c.held_gap.ensures at c.run_on-run.ensures) e in
+    let n = heard_many (marked standard c.of-m.result.dur.ms true) _ y in
+    sift_begins _ _ _ _ _ _ c.none-left.result n y c.none-left.ensures (few_heard _ _ _ y n)
 
 pub mark_one-h-requires : goal.mark_one-h-requires
-mark_one-h-requires c = record { fit = sift_member _ _ _ _ _ _ _ _ _ _ _ _ _ _ c.loop-i.invariant.0 c.loop-i-test.true; t = c.loop-i.invariant.1.0; x_value = c.loop-i.invariant.1.1 }
+mark_one-h-requires c = sift_member _ _ _ _ _ _ _ _ _ _ _ _ c.loop-i.invariant c.loop-i-test.true
 
-pub is_kept-requires : goal.is_kept-requires
-is_kept-requires c = c.mark_one-h.ensures.1
+pub push-requires : goal.push-requires
+push-requires c =
+    room_heard _ _ _ _ _ _ _ _ _ _ _ _ c.loop-i.invariant c.loop-i-test.true c.mark_one-h.result c.mark_one-h.ensures.0
+    (sym c.is_kept.ensures ∙ c.if-not-is_kept.true)
 
-pub lead_one-e-requires : goal.lead_one-e-requires
-lead_one-e-requires c = c.mark_one-h.ensures.1
-
-pub loop-i-preserved-then-is_kept : goal.loop-i-preserved-then-is_kept
-loop-i-preserved-then-is_kept c =
-    let a = c.before.before.before.before in
-    let l = a.before.before.before in
-    (keeps_heard _ _ _ _ _ _ _ _ _ _ _ _ _ _ l.loop-i.invariant.0 a.loop-i-test.true a.mark_one-h.result a.mark_one-h.ensures.0 _ c.lead_one-e.ensures (sym c.is_kept.ensures ∙ c.if-is_kept.true) _ c.better-best.ensures, l.loop-i.invariant.1)
-
-pub gone-requires : goal.gone-requires
-gone-requires c = record { fit = c.mark_one-h.ensures.1; h_value = sym c.is_kept.ensures ∙ c.if-is_kept.false }
-
-pub offset_bounds-left-g : goal.offset_bounds-left-g
-offset_bounds-left-g c =
-    let s = c.before.before.before in
-    let l = s.before.before.before in
-    let r = (room_heard _ _ _ _ _ _ _ _ _ _ _ _ _ _ l.loop-i.invariant.0 s.loop-i-test.true
-    s.mark_one-h.result s.mark_one-h.ensures.0
-    (sym c.is_kept.ensures ∙ c.if-is_kept.false)).0 in
-    search rules
-
-pub bounds-left-g : goal.bounds-left-g
-bounds-left-g c =
-    let s = c.before.before.before in
-    let l = s.before.before.before in
-    let r = (room_heard _ _ _ _ _ _ _ _ _ _ _ _ _ _ l.loop-i.invariant.0 s.loop-i-test.true
-    s.mark_one-h.result s.mark_one-h.ensures.0
-    (sym c.is_kept.ensures ∙ c.if-is_kept.false)).0 in
-    search rules
-
-pub overflow_add-g : goal.overflow_add-g
-overflow_add-g c =
-    let s = c.before.before.before in
-    let l = s.before.before.before in
-    let r = (room_heard _ _ _ _ _ _ _ _ _ _ _ _ _ _ l.loop-i.invariant.0 s.loop-i-test.true
-    s.mark_one-h.result s.mark_one-h.ensures.0
-    (sym c.is_kept.ensures ∙ c.if-is_kept.false)).0 in
-    search rules
+pub loop-i-preserved-then-not-is_kept : goal.loop-i-preserved-then-not-is_kept
+loop-i-preserved-then-not-is_kept c =
+    drops_heard _ _ _ _ _ _ _ _ _ _ _ _ c.loop-i.invariant c.loop-i-test.true c.mark_one-h.result c.mark_one-h.ensures.0
+    c.gone-d.result _ c.gone-d.ensures c.push.ensures
 
 pub loop-i-preserved : goal.loop-i-preserved
 loop-i-preserved c =
-    let a = c.before.before.before in
-    let l = a.before.before.before in
-    (drops_heard _ _ _ _ _ _ _ _ _ _ _ _ _ _ l.loop-i.invariant.0 a.loop-i-test.true a.mark_one-h.result a.mark_one-h.ensures.0 c.gone.result c.gone.ensures, l.loop-i.invariant.1)
+    keeps_heard _ _ _ _ _ _ _ _ _ _ _ _ c.loop-i.invariant c.loop-i-test.true c.mark_one-h.result c.mark_one-h.ensures.0
+    _ c.lead_one-e.ensures (sym c.is_kept.ensures ∙ c.if-not-is_kept.false) _ c.better-best.ensures
+
+pub invariant_of-result : goal.invariant_of-result
+invariant_of-result c =
+    record { sturdy = sift_sturdy _ _ _ _ _ _ _ _ _ _ c.loop-i.invariant c.loop-i-test.false _ c.place_of-c.ensures }
 
 pub returns : goal.returns
 returns c =
-    let l = c.before.before.before in
-    let a = l.before.before.before.before.before in
-    let s = a.before in
-    let k = beaten_is s.args.b s.requires.sturdy.0 (Tracked.view s.args.p) s.args.side s.args.d _ a.struck-k.result.run a.struck-k.ensures.run a.struck-k.ensures.score in
-    let u = sift_ends _ _ _ (record { bank = _; left = l.nobody-left.result; left_len = 0 }) _ _ _ _ _ _ l.loop-i.invariant.0 c.loop-i-test.false _ _ _ c.is_found.ensures c.place_or.ensures in
-    record {
-      is = u.is ∙ beat_told (view s.args.b) _ (Tracked.view s.args.p) _ _ s.args.d s.args.side
-          k.0 s.requires.lo_value.0 s.requires.lo_value.1 s.requires.side_value.0
-          (few_marks s.args.b s.requires.sturdy.0 s.requires.side_value.1);
-      sturdy = u.sturdy;
-      listed = u.listed;
-    }
+    let b = c.args.b.bank in
+    let q = c.requires in
+    let r = rw c.held_gap.ensures at c.run_on-run.ensures in
+    let e = primary_mark (Tracked.view c.args.p) _ _ _ _ _ c.of-m.result b.sturdy.score c.decayed-score.ensures
+    c.mark_ll.ensures c.of-m.ensures q.l_value in
+    sift_told _ _ _ _ _ _ _ _ _ _ c.loop-i.invariant c.loop-i-test.false _ c.place_of-c.ensures
+    ∙ beat_heard (view b.bank) _ (Tracked.view c.args.p) c.args.l c.args.d.ms c.args.side
+    (beaten_is b.bank b.sturdy (Tracked.view c.args.p) c.args.side c.args.d.ms _ c.run_on-run.result r e) q.l_value
+    q.side_value.0 (few_marks b.bank b.sturdy q.side_value.1) _ c.of-m.ensures

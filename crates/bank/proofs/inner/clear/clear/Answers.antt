@@ -1,22 +1,21 @@
-use Rattle.std.proofs.Common.{true, false, le-leb}
-use Rattle.bank.proofs.Clearing.{clear_by, cleared_left}
-use Rattle.bank.proofs.Leaving.{crew_few}
-use Rattle.bank.proofs.Coming.{unchanged_left, left_as}
-use Rattle.bank.specs.View.{view}
+use Rattle.std.proofs.Common.{◌∙◌, le-leb}
 use borrow.Author.Tests.{lt-leb}
+use Rattle.bank.specs.View.{view}
+use Rattle.bank.proofs.Emptying.{no_crew, no_streak, bare_sturdy, clear_off, clear_on}
 use Rattle.bank.proofs.inner.clear.clear.Goals as goal
 
 pub returns-then-b-lt2 : goal.returns-then-b-lt2
-returns-then-b-lt2 c =
-    let s = c.before.before.before in
-    left_as _ _ _ (clear_by (view s.args.b) false (lt-leb 2 s.args.b.width c.if-b-lt2.true))
-    (unchanged_left s.args.b _ c.unchanged.ensures s.requires)
+returns-then-b-lt2 c = c.unchanged.ensures
+    ∙ clear_off (view c.args.b.bank) (lt-leb 2 c.args.b.bank.width c.if-b-lt2.true)
 
-pub all_cleared-left-requires : goal.all_cleared-left-requires
-all_cleared-left-requires c = (c.requires.steady.crew, crew_few _ c.requires.steady)
+pub invariant_of-result : goal.invariant_of-result
+invariant_of-result c =
+    let s = c.args.b.sturdy in
+    record {
+      sturdy =
+          bare_sturdy _ _ _ _ _ _ _ _ _ _ s.wide_enough s.wide (no_crew _ s.crew.long)
+          (no_streak _ _ s.streaks.long s.streaks.gaps_long) s.log;
+    }
 
 pub returns : goal.returns
-returns c =
-    let s = c.before.before.before in
-    cleared_left s.args.b s.requires c.all_cleared-left.result c.all_cleared-left.ensures
-    (le-leb 2 s.args.b.width c.if-b-lt2.false)
+returns c = clear_on c.args.b.bank _ (le-leb 2 c.args.b.bank.width c.if-b-lt2.false) c.all_cleared-gone.ensures

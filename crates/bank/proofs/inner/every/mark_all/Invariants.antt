@@ -1,13 +1,7 @@
-use Rattle.std.proofs.Common.{◌≡◌, ◌-◌, T}
 use Rattle.ranges.specs.Settings.{standard}
-use Rattle.bank.proofs.Stock.{Mapping}
 use Rattle.bank_model.specs.Steps.{marked}
-use Rattle.numbers.specs.Log.{ln_of}
-use Rattle.marks.specs.Lists.{duration}
+use Rattle.bank.proofs.Stock.{Mapping}
 use Rattle.bank.proofs.inner.every.mark_all.Given as goal
 
 abbrev pub invariant-loop-i : goal.invariant-loop-i
-invariant-loop-i l = Mapping (marked standard l.d l.live) l.initial.c l.c l.i × (T (duration l.d) × (l.x ≡ ln_of l.d))
-
-abbrev pub decreases-loop-i : goal.decreases-loop-i
-decreases-loop-i l = l.n - l.i
+invariant-loop-i l = Mapping (marked standard l.d.dur.ms l.live) l.initial.c l.c l.i

@@ -1,11 +1,15 @@
--- `bank::inner::fresh::fresh` meets its contract. Assumes nothing.
-use Rattle.std.proofs.Common.{Bool, cond, refl, ap, arith, le-leb}
-use borrow.Author.Tests.{lt-leb}
-use Rattle.bank.proofs.Beginning.{begins}
+use Rattle.std.proofs.Common.{◌≤◌, refl, arith}
+use Rattle.bank_model.specs.Departures.{widest}
+use Rattle.bank.proofs.Emptying.{no_crew, no_streak, no_log, bare_sturdy}
 use Rattle.bank.proofs.inner.fresh.fresh.Goals as goal
 
-pub returns-then-width-ge1 : goal.returns-then-width-ge1
-returns-then-width-ge1 c = let h = le-leb 1 c.args.width c.if-width-ge1.true in let e = ap (λ (x : Bool). cond x c.args.width 1) h in begins c.args.width _ c.args.switching _ _ _ _ e c.if-width-ge1.true c.requires refl refl refl refl
-
-pub returns-else-width-ge1 : goal.returns-else-width-ge1
-returns-else-width-ge1 c = let h = lt-leb 1 c.args.width c.if-width-ge1.false in let e = ap (λ (x : Bool). cond x c.args.width 1) h in begins c.args.width _ c.args.switching _ _ _ _ e (omega arith) (omega arith) refl refl refl refl
+pub invariant_of-result : goal.invariant_of-result
+invariant_of-result c =
+    let r = c.requires in
+    let m = c.max.ensures in
+    let low : 1 ≤ c.max.result = omega arith in
+    let high : c.max.result ≤ widest = omega arith in
+    record {
+      sturdy =
+          bare_sturdy _ _ _ _ _ _ _ _ _ _ low high (no_crew _ refl) (no_streak _ _ refl refl) (no_log _ refl);
+    }

@@ -1,18 +1,23 @@
-use Rattle.bank.proofs.Reading.{other_by, lone_three}
 use Rattle.std.proofs.Common.{true, false, sym, refl, ap, ◌∙◌}
-use Rattle.tracker.specs.Model as Tracked
 use mathlib.Core.Option.{some}
+use Rattle.marks.proofs.Testing.{not_taken, not_left}
 use Rattle.tracker.specs.Model as Tracked
+use Rattle.bank.proofs.Reading.{other_by, lone_three}
 use Rattle.bank.proofs.inner.ready.other_reading.Goals as goal
 
-pub from_others-t-requires : goal.from_others-t-requires
-from_others-t-requires c = record { in_bounds = (lone_three c.args.p.pair.lo_n _ (sym c.is_lone.ensures ∙ c.if-is_lone.true), c.requires.marks_len_bound); all_in = c.requires.all_in }
+pub returns-then-not-p : goal.returns-then-not-p
+returns-then-not-p c = c.three_to_one_alternative.ensures
+    ∙ other_by (Tracked.view c.args.p.tracker) _ false _ (not_taken _ c.if-not-p.true) refl
+
+pub from_others-requires : goal.from_others-requires
+from_others-requires c =
+    lone_three c.args.p.tracker.pair.lo_n _ (sym c.is_lone.ensures ∙ c.if-is_lone.true)
 
 pub returns-then-is_lone : goal.returns-then-is_lone
-returns-then-is_lone c = (ap some c.from_others-t.ensures.0 ∙ other_by (Tracked.view c.args.p) _ true true c.if-q.true (sym c.is_lone.ensures ∙ c.if-is_lone.true), c.from_others-t.ensures.1)
-
-pub returns-then-q : goal.returns-then-q
-returns-then-q c = (other_by (Tracked.view c.args.p) _ true false c.if-q.true (sym c.is_lone.ensures ∙ c.if-is_lone.false), c.requires.t)
+returns-then-is_lone c = ap some c.from_others.ensures
+    ∙ other_by (Tracked.view c.args.p.tracker) _ true true (not_left _ c.if-not-p.false) (sym c.is_lone.ensures
+    ∙ c.if-is_lone.true)
 
 pub returns : goal.returns
-returns c = (c.three_to_one_alternative.ensures.0 ∙ other_by (Tracked.view c.args.p) _ false _ c.if-q.false refl, c.three_to_one_alternative.ensures.1)
+returns c = other_by (Tracked.view c.args.p.tracker) _ true false (not_left _ c.if-not-p.false)
+    (sym c.is_lone.ensures ∙ c.if-is_lone.false)

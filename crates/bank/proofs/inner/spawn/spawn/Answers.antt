@@ -1,31 +1,52 @@
-use Rattle.bank.proofs.Coming.{unchanged_left, spawn_is, roomy_yes, roomy_no, left_as}
-use Rattle.bank.proofs.Choosing.{victim_before}
 use Rattle.std.proofs.Common.{true, false, refl, ap, ◌∙◌}
-use Rattle.bank_model.proofs.Ready.{dit_log, dah_log}
-use Rattle.bank_model.specs.Steps.{pushed, replacing, place, newborn}
-use Rattle.bank_model.specs.Model.{Hyp}
-use Rattle.bank_model.specs.declared.Best.{Best}
-use Rattle.bank.specs.View.{view}
 use Rattle.tracker.specs.Model as Tracked
+use Rattle.bank_model.specs.Model.{Hyp}
+use Rattle.bank_model.specs.Steps.{Best, pushed, replacing, place, newborn}
+use Rattle.bank_model.proofs.Ready.{dit_log, dah_log}
+use Rattle.bank.specs.View.{view}
+use Rattle.bank.proofs.Coming.{spawn_is, victim_before, roomy_yes, roomy_no}
 use Rattle.bank.proofs.inner.spawn.spawn.Goals as goal
+use Rattle.bank.proofs.inner.spawn.spawn.Goals.{
+  then-duplicates-via-then-duplicates,
+  then-duplicates-via-else-duplicates+then-any_twin,
+}
 
-pub log_of-t_lo-requires : goal.log_of-t_lo-requires
-log_of-t_lo-requires c = dit_log c.args.t c.requires.t.0 c.requires.t.1
-
-pub log_of-t_hi-requires : goal.log_of-t_hi-requires
-log_of-t_hi-requires c = dah_log c.args.t c.requires.t.0 c.requires.t.1
+pub centroid_logs-l-requires : goal.centroid_logs-l-requires
+centroid_logs-l-requires c = (
+  dit_log c.args.t.tracker c.args.t.held c.requires,
+  dah_log c.args.t.tracker c.args.t.held c.requires,
+)
 
 pub returns-then-duplicates : goal.returns-then-duplicates
-returns-then-duplicates c = left_as _ _ _ (spawn_is c.args.b c.requires.sturdy c.args.lo c.args.hi c.args.o _ _ _ c.log_of-t_lo.ensures c.log_of-t_hi.ensures true _ _ _ _ c.duplicates.ensures c.if-duplicates.true refl refl refl) (unchanged_left c.args.b _ c.unchanged.ensures c.requires.sturdy)
+returns-then-duplicates c =
+    let s = c.args.b.sturdy in
+    c.unchanged.ensures
+    ∙ elim c.then-duplicates.branch [
+      | then-duplicates-via-then-duplicates w ↦ spawn_is c.args.b.bank s c.args.p.lo c.args.p.hi c.args.o _ _
+          c.centroid_logs-l.ensures true _ _ _ _ c.duplicates.ensures w.if-duplicates.true refl refl refl
+      | then-duplicates-via-else-duplicates+then-any_twin w ↦ spawn_is c.args.b.bank s c.args.p.lo c.args.p.hi c.args.o
+          _ _ c.centroid_logs-l.ensures false true _ _ _ c.duplicates.ensures w.if-duplicates.false w.any_twin.ensures
+          w.if-any_twin.true refl
+    ]
 
-pub returns-then-any_twin : goal.returns-then-any_twin
-returns-then-any_twin c = left_as _ _ _ (spawn_is c.args.b c.requires.sturdy c.args.lo c.args.hi c.args.o _ _ _ c.log_of-t_lo.ensures c.log_of-t_hi.ensures false true _ _ _ c.duplicates.ensures c.if-duplicates.false c.any_twin.ensures c.if-any_twin.true refl) (unchanged_left c.args.b _ c.unchanged-then-any_twin.ensures c.requires.sturdy)
+pub returns-then-b : goal.returns-then-b
+returns-then-b c =
+    let s = c.args.b.sturdy in
+    c.push.ensures ∙ ap (pushed (view c.args.b.bank)) c.newborn-h.ensures.0
+    ∙ spawn_is c.args.b.bank s c.args.p.lo c.args.p.hi c.args.o _ _ c.centroid_logs-l.ensures false false true _ _
+    c.duplicates.ensures c.if-duplicates.false c.any_twin.ensures c.if-any_twin.false
+    (roomy_yes c.args.b.bank s c.if-b.true)
 
-pub returns-then-n-b : goal.returns-then-n-b
-returns-then-n-b c = left_as _ _ _ (ap (pushed (view c.args.b)) c.newborn-h.ensures.0 ∙ spawn_is c.args.b c.requires.sturdy c.args.lo c.args.hi c.args.o _ _ _ c.log_of-t_lo.ensures c.log_of-t_hi.ensures false false true _ _ c.duplicates.ensures c.if-duplicates.false c.any_twin.ensures c.if-any_twin.false (roomy_yes c.args.b c.requires.sturdy c.if-n-b.true)) c.push.ensures
-
-pub replace-requires : goal.replace-requires
-replace-requires c = record { sturdy = (c.requires.sturdy, c.newborn-h.ensures.1); before = victim_before c.args.b c.victim-v.result c.requires.sturdy.steady.crew c.victim-v.ensures }
+pub replace-requires-clause-before : goal.replace-requires-clause-before
+replace-requires-clause-before c = victim_before c.args.b.bank c.args.b.sturdy _ c.victim-v.ensures
 
 pub returns : goal.returns
-returns c = left_as _ _ _ (ap (λ (h : Hyp). replacing (view c.args.b) h (place c.victim-v.result)) c.newborn-h.ensures.0 ∙ ap (λ (v : Best). replacing (view c.args.b) (newborn (view c.args.b) (Tracked.view c.args.t) c.args.o) (place v)) c.victim-v.ensures ∙ spawn_is c.args.b c.requires.sturdy c.args.lo c.args.hi c.args.o _ _ _ c.log_of-t_lo.ensures c.log_of-t_hi.ensures false false false _ _ c.duplicates.ensures c.if-duplicates.false c.any_twin.ensures c.if-any_twin.false (roomy_no c.args.b c.requires.sturdy c.if-n-b.false)) c.replace.ensures
+returns c =
+    let s = c.args.b.sturdy in
+    c.replace.ensures
+    ∙ ap (λ (h : Hyp). replacing (view c.args.b.bank) h (place c.victim-v.result)) c.newborn-h.ensures.0
+    ∙ ap (λ (v : Best). replacing (view c.args.b.bank)
+    (newborn (view c.args.b.bank) (Tracked.view c.args.t.tracker) c.args.o) (place v)) c.victim-v.ensures
+    ∙ spawn_is c.args.b.bank s c.args.p.lo c.args.p.hi c.args.o _ _ c.centroid_logs-l.ensures false false false _ _
+    c.duplicates.ensures c.if-duplicates.false c.any_twin.ensures c.if-any_twin.false
+    (roomy_no c.args.b.bank s c.if-b.false)

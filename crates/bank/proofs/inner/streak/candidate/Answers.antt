@@ -1,38 +1,45 @@
-use Rattle.bank.proofs.Streaking.{candidate_is, marks_ready}
-use Rattle.std.proofs.Common.{Bool, true, false, cond, sym, ap, ◌∙◌, arith, length-take-le}
-use Rattle.bank_model.proofs.Ready.{dit_log, dah_log}
-use Rattle.bank.specs.View.{view}
+use Rattle.std.proofs.Common.{Bool, cond, sym, ap, ◌∙◌, arith, length-take}
 use mathlib.Core.Option.{some}
-use Rattle.tracker.specs.Model as Tracked
-use Rattle.tracker.specs.Steps.{three_to_one}
 use Rattle.ranges.specs.Settings.{standard}
 use Rattle.tracker.specs.Model as Tracked
-use Rattle.tracker.specs.Model as Tracked
+use Rattle.tracker.specs.Steps.{three_to_one}
+use Rattle.bank_model.proofs.Ready.{dit_log, dah_log}
+use Rattle.bank.specs.View.{view}
+use Rattle.bank.proofs.Streaking.{candidate_is, marks_ready}
+use Rattle.marks.proofs.Bounds.{held_durations}
 use Rattle.bank.proofs.inner.streak.candidate.Goals as goal
 
-pub slice_bounds-marks-end : goal.slice_bounds-marks-end
-slice_bounds-marks-end c = let f = c.requires.sturdy.steady.streaks in let lm = f.long in let lg = f.gaps_long in let a = f.few in let z = f.paired in omega arith
+pub invariant_of-marks : goal.invariant_of-marks
+invariant_of-marks c =
+    let s = c.args.b.sturdy.streaks in
+    let n = s.few in
+    record { held = held_durations _ s.marks; few = simp length-take (omega arith) }
 
-pub slice_bounds-from_marks-end : goal.slice_bounds-from_marks-end
-slice_bounds-from_marks-end c = let f = c.requires.sturdy.steady.streaks in let lm = f.long in let lg = f.gaps_long in let a = f.few in let z = f.paired in sym (length-take-le c.args.b.streak_len c.args.b.streak (omega arith))
+pub invariant_of-gaps : goal.invariant_of-gaps
+invariant_of-gaps c =
+    let s = c.args.b.sturdy.streaks in
+    let n = s.few in
+    let m = s.paired in
+    record { held = held_durations _ s.between; few = simp length-take (omega arith) }
 
-pub slice_bounds-gaps-end : goal.slice_bounds-gaps-end
-slice_bounds-gaps-end c = let f = c.requires.sturdy.steady.streaks in let lm = f.long in let lg = f.gaps_long in let a = f.few in let z = f.paired in omega arith
-
-pub slice_bounds-from_marks-end-2 : goal.slice_bounds-from_marks-end-2
-slice_bounds-from_marks-end-2 c = let f = c.requires.sturdy.steady.streaks in let lm = f.long in let lg = f.gaps_long in let a = f.few in let z = f.paired in sym (length-take-le c.args.b.streak_gaps_len c.args.b.streak_gaps (omega arith))
-
-pub from_marks-t-requires : goal.from_marks-t-requires
-from_marks-t-requires c = let f = c.requires.sturdy.steady.streaks in let lm = f.long in let lg = f.gaps_long in let a = f.few in let z = f.paired in let e = length-take-le c.args.b.streak_len c.args.b.streak (omega arith) in let p = c.requires.streak_len_nonzero in record { in_bounds = (omega arith, omega arith); all_in = f.marks; all_in_2 = f.between }
-
-pub log_of-t_lo-requires : goal.log_of-t_lo-requires
-log_of-t_lo-requires c = dit_log c.from_marks-t.result c.from_marks-t.ensures.1 (marks_ready c.from_marks-t.result _ _ c.from_marks-t.ensures.0)
-
-pub log_of-t_hi-requires : goal.log_of-t_hi-requires
-log_of-t_hi-requires c = dah_log c.from_marks-t.result c.from_marks-t.ensures.1 (marks_ready c.from_marks-t.result _ _ c.from_marks-t.ensures.0)
+pub centroid_logs-requires : goal.centroid_logs-requires
+centroid_logs-requires c =
+    let t = c.from_marks-t.result in
+    let r = marks_ready t.tracker _ _ c.from_marks-t.ensures in
+    (dit_log t.tracker t.held r, dah_log t.tracker t.held r)
 
 pub returns-then-duplicates : goal.returns-then-duplicates
-returns-then-duplicates c = (candidate_is c.args.lo c.args.hi (view c.args.b).evidence c.from_marks-t.result _ _ c.from_marks-t.ensures.0 c.log_of-t_lo.ensures c.log_of-t_hi.ensures _ c.duplicates.ensures _ (c.three_to_one_alternative.ensures.0 ∙ ap (λ (z : Bool). cond z (three_to_one standard (Tracked.view c.from_marks-t.result)) (some (Tracked.view c.from_marks-t.result))) (sym c.if-duplicates.true)), c.three_to_one_alternative.ensures.1)
+returns-then-duplicates c =
+    let t = c.from_marks-t.result.tracker in
+    candidate_is c.args.p.lo c.args.p.hi (view c.args.b.bank).evidence t _ c.from_marks-t.ensures
+    c.centroid_logs.ensures _ c.duplicates.ensures _ (c.three_to_one_alternative.ensures
+    ∙ ap (λ (z : Bool). cond z (three_to_one standard (Tracked.view t)) (some (Tracked.view t)))
+    (sym c.if-duplicates.true))
 
 pub returns : goal.returns
-returns c = (candidate_is c.args.lo c.args.hi (view c.args.b).evidence c.from_marks-t.result _ _ c.from_marks-t.ensures.0 c.log_of-t_lo.ensures c.log_of-t_hi.ensures _ c.duplicates.ensures _ (ap (λ (z : Bool). cond z (three_to_one standard (Tracked.view c.from_marks-t.result)) (some (Tracked.view c.from_marks-t.result))) (sym c.if-duplicates.false)), c.from_marks-t.ensures.1)
+returns c =
+    let t = c.from_marks-t.result.tracker in
+    candidate_is c.args.p.lo c.args.p.hi (view c.args.b.bank).evidence t _ c.from_marks-t.ensures
+    c.centroid_logs.ensures _ c.duplicates.ensures _
+    (ap (λ (z : Bool). cond z (three_to_one standard (Tracked.view t)) (some (Tracked.view t)))
+    (sym c.if-duplicates.false))

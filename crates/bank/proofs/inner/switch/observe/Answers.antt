@@ -1,12 +1,23 @@
-use Rattle.bank.proofs.Exchanging.{dit_duration, it_fit, again, note_taken}
 use Rattle.std.proofs.Common.{refl}
+use Rattle.bank.proofs.Exchanging.{recorded, again, noted_is, noted_sturdy}
 use Rattle.bank.proofs.inner.switch.observe.Goals as goal
 
 pub returns-then-h : goal.returns-then-h
-returns-then-h c = again c.args.b c.requires.sturdy c.args.i c.requires.i_bound _ c.args.p c.if-h.true
+returns-then-h c = again c.args.b.bank c.args.b.sturdy c.args.i c.requires.i_bound _ c.args.p.tracker c.if-h.true
 
-pub push_log-c-requires : goal.push_log-c-requires
-push_log-c-requires c = record { log = c.requires.sturdy.steady.log; recorded = record { from = dit_duration c.args.p c.requires.t.0 c.requires.t.1; to = let f = it_fit c.args.b c.requires.sturdy c.args.i c.requires.i_bound _ in dit_duration _ f.tracker f.ready } }
+pub push_log-requires : goal.push_log-requires
+push_log-requires c =
+    let p = c.args.p in
+    recorded c.args.b.bank c.args.b.sturdy c.args.i c.requires.i_bound _ p.tracker _ p.held c.requires.ready
+
+pub invariant_of-result-2 : goal.invariant_of-result-2
+invariant_of-result-2 c =
+    record {
+      sturdy =
+          noted_sturdy c.args.b.bank c.args.b.sturdy c.args.i c.requires.i_bound _ _ c.push_log.result.sturdy _
+          c.push_log.ensures _ (refl, (refl, refl)) (refl, refl);
+    }
 
 pub returns : goal.returns
-returns c = let f = it_fit c.args.b c.requires.sturdy c.args.i c.requires.i_bound _ in note_taken c.args.b c.requires.sturdy c.args.i c.requires.i_bound _ c.args.p _ c.push_log-c.result c.if-h.false c.push_log-c.ensures (refl, record { tracker = f.tracker; ready = f.ready; ln_lo = f.ln_lo; ln_hi = f.ln_hi; score = f.score; score_gap = f.score_gap })
+returns c = noted_is c.args.b.bank c.args.b.sturdy c.args.i c.requires.i_bound _ _ c.push_log.result.sturdy _
+    c.push_log.ensures _ c.args.p.tracker c.if-h.false refl refl

@@ -1,12 +1,12 @@
--- `bank_model::inner::scores::gap_logs` meets its contract. Assumes nothing.
-use mathlib.Core.Path.{ap, ◌∙◌}
+use mathlib.Core.Path.{refl, ap, ◌∙◌}
 use Rattle.numbers.specs.Log.{ln_of}
+use Rattle.ranges.proofs.Durations.{duration_positive}
 use Rattle.bank_model.specs.Scores.{log_of}
 use Rattle.bank_model.proofs.inner.scores.gap_logs.Goals as goal
 
-pub ln_two-requires : goal.ln_two-requires
-ln_two-requires c = let s = c.before in (s.requires.0, rw c.max32.ensures s.requires.1)
+pub ln_two-k-requires : goal.ln_two-k-requires
+ln_two-k-requires c = (duration_positive c.args.d.ms c.args.d.held, rw c.max32.ensures c.requires)
 
 pub returns : goal.returns
 unfolding log_of
-returns c = let e = c.ln_two.ensures in (e.0, e.1 ∙ ap ln_of c.max32.ensures)
+returns c = let e = c.ln_two-k.ensures in (refl, e.1 ∙ ap ln_of c.max32.ensures)
