@@ -1,14 +1,16 @@
 -- A bank goes into its plain form and comes back: all that is part of its state. Assumes nothing.
 use mathlib.Core.Path.{◌≡◌, refl, ap, sym, ◌∙◌, subst}
-use mathlib.Core.Bool.{Bool, true, false, cond, ◌&&◌, false≢true}
+use mathlib.Core.Bool.{Bool, true, ◌&&◌}
 use mathlib.Core.List.{List, [], ◌∷◌, map}
-use Prim.Native.Nat.{ℕ, zero, suc, ◌<◌}
-use lib.Dec.{T, leb, ltb}
-use lib.ListN.{length, take}
+use Prim.Native.Nat.{ℕ, zero, suc}
+use lib.Dec.{T, leb}
+use lib.ListN.{take}
 use lib.Ieee.{Float}
 use Rattle.ranges.specs.Settings.{Settings, standard}
 use Rattle.ranges.specs.Limits.{nought, duration_min, duration_max}
 use Rattle.ranges.specs.Interval.{AllIn}
+use Rattle.std.specs.List.{AllByRecursion, list_all}
+use Rattle.std.specs.Prelude.{Option as Given, Some, None, is_some}
 use Rattle.marks.specs.Lists.{all}
 use Rattle.bank_model.specs.declared.Origin.{Origin}
 use Rattle.bank_model.specs.declared.Origin.TheVariants.{Bootstrap, Streak, FormerPrimary}
@@ -20,14 +22,13 @@ use Rattle.rival.specs.Parts.{Fit}
 use Rattle.rival.specs.Sound.{same, scores_sound, hyp_sound}
 use Rattle.rival.specs.View.{view_hyp}
 use Rattle.bank.specs.declared.TimingBank.{TimingBank}
-use Rattle.bank.specs.Parts.{All, GapIn, Sturdy}
-use Rattle.bank.specs.Sound.{gap_sound, sound}
-use Rattle.bank.specs.View.{given, view_all, view}
-use Rattle.plain_tracker.specs.Plain.{as_flag, as_number, is_flag, carried, first_of, zeros, or_nought}
-use Rattle.plain_tracker.proofs.Back.{flag_back, flag_named, trimmed_tracker, tracker_back, tracker_plain, tracker_view, tracker_sound, tracker_named, emptied}
+use Rattle.bank.specs.Sturdy.{Sturdy}
+use Rattle.bank.specs.Sound.{sound}
+use Rattle.bank.specs.View.{view_all, view}
+use Rattle.plain_tracker.specs.Plain.{as_flag, as_number, carried, first_of, zeros, has, optional, or_nought}
+use Rattle.plain_tracker.proofs.Back.{flag_back, flag_named, trimmed_tracker, tracker_back, tracker_plain, tracker_view, tracker_sound, tracker_named}
 use Rattle.plain_tracker.proofs.Carrying.{carried_back, carried_by, carried_long, carried_same, take_carried, take_kept, map_by, all_by}
-use Rattle.plain.specs.declared.PlainBank.{PlainBank}
-use Rattle.plain.specs.Plain.{origin_code, retained, origin_of, plain_hyp, hyp_of, no_hyp, blank_hyp, is_hyp, plain_record, record_of, no_record, blank_record, is_record, or_zero, plain_bank, bank_of, is_side, is_crew, is_log, is_bank}
+use Rattle.plain.specs.Plain.{origin_code, retained, origin_of, plain_hyp, hyp_of, no_hyp, blank_hyp, is_hyp, plain_record, record_of, no_record, blank_record, is_record, or_zero, side_number, plain_bank, bank_of, is_side, is_crew, is_log, is_bank}
 
 origin_back : (o : Origin) → origin_of (origin_code o) (retained o) ≡ o
 origin_back Bootstrap = refl
@@ -116,57 +117,28 @@ hyp_fit h f = record {
   score_gap = f.score_gap;
 }
 
-all_fit : (l : List TimingHypothesis) → All Fit l → All Fit (map trimmed_hyp l)
-unfolding All
+all_fit : (l : List TimingHypothesis) → AllByRecursion Fit l → AllByRecursion Fit (map trimmed_hyp l)
 all_fit [] a = a
 all_fit (h ∷ l) a = (hyp_fit h a.0, all_fit l a.1)
 
 record_back : (s : SwitchRecord) → record_of (plain_record s) ≡ s
 record_back s = λ i. record { mark_index = s.mark_index; from_dit_ms = s.from_dit_ms; to_dit_ms = s.to_dit_ms; applied = flag_back s.applied i }
 
--- ---- what may be absent: emptied, it means the same
+-- ---- what may be absent
 
-side_back : (has side : Bool) → as_flag (or_zero has (as_number side)) ≡ has && side
-side_back true side = flag_back side
-side_back false side = refl
+side_back : (x : Given Bool) → optional (has x) (as_flag (side_number x)) ≡ x
+side_back None = refl
+side_back (Some side) = ap Some (flag_back side)
 
-side_plain : (has side : Bool) → or_zero has (as_number (has && side)) ≡ or_zero has (as_number side)
-side_plain true side = refl
-side_plain false side = refl
+gap_back : (x : Given Float) → optional (has x) (or_nought x) ≡ x
+gap_back None = refl
+gap_back (Some x) = refl
 
-side_given : (has side : Bool) → given has (has && side) ≡ given has side
-side_given true side = refl
-side_given false side = refl
+place_back : (x : Given ℕ) → optional (has x) (or_zero x) ≡ x
+place_back None = refl
+place_back (Some n) = refl
 
-gap_given : (has : Bool) (x : Float) → given has (or_nought has x) ≡ given has x
-gap_given true x = refl
-gap_given false x = refl
-
-gap_sound_law : (has : Bool) (x : Float) → gap_sound has (or_nought has x) ≡ gap_sound has x
-gap_sound_law true x = refl
-gap_sound_law false x = refl
-
-gap_in : (has : Bool) (x : Float) → GapIn has x → GapIn has (or_nought has x)
-gap_in true x h = h
-gap_in false x h = λ e. absurd (false≢true e)
-
-place_plain : (has : Bool) (n : ℕ) → or_zero has (or_zero has n) ≡ or_zero has n
-place_plain true n = refl
-place_plain false n = refl
-
-place_given : (has : Bool) (n : ℕ) → given has (or_zero has n) ≡ given has n
-place_given true n = refl
-place_given false n = refl
-
-place_sound : (has : Bool) (n m : ℕ) → cond has (ltb (or_zero has n) m) true ≡ cond has (ltb n m) true
-place_sound true n m = refl
-place_sound false n m = refl
-
-place_below : (has : Bool) (n m : ℕ) → (has ≡ true → n < m) → has ≡ true → or_zero has n < m
-place_below true n m h e = h e
-place_below false n m h e = absurd (false≢true e)
-
--- ---- a bank whose places beyond a count, and numbers marked absent, are empty
+-- ---- a bank whose places beyond a count are empty
 
 abbrev pub trimmed : TimingBank → TimingBank
 trimmed b = record {
@@ -180,14 +152,11 @@ trimmed b = record {
   streak_len = b.streak_len;
   streak_gaps = first_of b.streak_gaps_len b.streak_gaps;
   streak_gaps_len = b.streak_gaps_len;
-  has_side = b.has_side;
-  streak_side = b.has_side && b.streak_side;
-  has_last_gap = b.has_last_gap;
-  last_gap = or_nought b.has_last_gap b.last_gap;
+  streak_side = b.streak_side;
+  last_gap = b.last_gap;
   marks_seen = b.marks_seen;
   gaps_seen = b.gaps_seen;
-  has_pending = b.has_pending;
-  pending = or_zero b.has_pending b.pending;
+  pending = b.pending;
   log = carried (λ s. s) no_record b.log_len b.log;
   log_len = b.log_len;
   started = b.started;
@@ -205,14 +174,11 @@ bank_back b = λ i. record {
   streak_len = b.streak_len;
   streak_gaps = first_of b.streak_gaps_len b.streak_gaps;
   streak_gaps_len = b.streak_gaps_len;
-  has_side = flag_back b.has_side i;
-  streak_side = side_back b.has_side b.streak_side i;
-  has_last_gap = flag_back b.has_last_gap i;
-  last_gap = or_nought b.has_last_gap b.last_gap;
+  streak_side = side_back b.streak_side i;
+  last_gap = gap_back b.last_gap i;
   marks_seen = b.marks_seen;
   gaps_seen = b.gaps_seen;
-  has_pending = flag_back b.has_pending i;
-  pending = or_zero b.has_pending b.pending;
+  pending = place_back b.pending i;
   log = carried_back plain_record record_of (λ s. s) blank_record no_record record_back b.log_len b.log i;
   log_len = b.log_len;
   started = b.started;
@@ -225,9 +191,6 @@ trimmed_plain b =
       carried_by plain_hyp trimmed_hyp blank_hyp no_hyp hyp_plain b.challengers_len b.challengers,
       carried_same (λ x. x) nought nought b.streak_len b.streak,
       carried_same (λ x. x) nought nought b.streak_gaps_len b.streak_gaps,
-      side_plain b.has_side b.streak_side,
-      emptied b.has_last_gap b.last_gap,
-      place_plain b.has_pending b.pending,
       carried_same plain_record blank_record no_record b.log_len b.log,
     )
 
@@ -247,9 +210,6 @@ trimmed_view b =
       crew_view b.challengers_len b.challengers,
       take_kept nought b.streak_len b.streak,
       take_kept nought b.streak_gaps_len b.streak_gaps,
-      side_given b.has_side b.streak_side,
-      gap_given b.has_last_gap b.last_gap,
-      place_given b.has_pending b.pending,
       take_kept no_record b.log_len b.log,
     )
 
@@ -258,45 +218,39 @@ unfolding sound
 trimmed_sound k n b =
     rw (
       crew_sound k b.challengers_len b.challengers,
-      place_sound b.has_pending b.pending b.challengers_len,
       take_kept nought b.streak_len b.streak,
       take_kept nought b.streak_gaps_len b.streak_gaps,
-      gap_sound_law b.has_last_gap b.last_gap,
       take_kept no_record b.log_len b.log,
     )
 
 trimmed_sturdy : (b : TimingBank) → Sturdy b → Sturdy (trimmed b)
-trimmed_sturdy b h =
-    let s = h.steady in
-    record {
-      steady = record {
-        wide_enough = s.wide_enough;
-        wide = s.wide;
-        below = s.below;
-        crew = record {
-          few = s.crew.few;
-          long = carried_long trimmed_hyp no_hyp b.challengers b.challengers_len ∙ s.crew.long;
-          each = subst (All Fit) (sym (crew_kept b.challengers_len b.challengers)) (all_fit (take b.challengers_len b.challengers) s.crew.each);
-        };
-        score = s.score;
-        score_gap = s.score_gap;
-        streaks = record {
-          few = s.streaks.few;
-          paired = s.streaks.paired;
-          long = carried_long (λ x. x) nought b.streak b.streak_len ∙ s.streaks.long;
-          gaps_long = carried_long (λ x. x) nought b.streak_gaps b.streak_gaps_len ∙ s.streaks.gaps_long;
-          marks = subst (AllIn duration_min duration_max) (sym (take_kept nought b.streak_len b.streak)) s.streaks.marks;
-          between = subst (AllIn duration_min duration_max) (sym (take_kept nought b.streak_gaps_len b.streak_gaps)) s.streaks.between;
-        };
-        last_gap = gap_in b.has_last_gap b.last_gap s.last_gap;
-        log = record {
-          few = s.log.few;
-          long = carried_long (λ x. x) no_record b.log b.log_len ∙ s.log.long;
-          each = subst (All _) (sym (take_kept no_record b.log_len b.log)) s.log.each;
-        };
-      };
-      pending = place_below b.has_pending b.pending b.challengers_len h.pending;
-    }
+trimmed_sturdy b s = record {
+  wide_enough = s.wide_enough;
+  wide = s.wide;
+  below = s.below;
+  crew = record {
+    few = s.crew.few;
+    long = carried_long trimmed_hyp no_hyp b.challengers b.challengers_len ∙ s.crew.long;
+    each = subst (AllByRecursion Fit) (sym (crew_kept b.challengers_len b.challengers)) (all_fit (take b.challengers_len b.challengers) s.crew.each);
+  };
+  score = s.score;
+  score_gap = s.score_gap;
+  streaks = record {
+    few = s.streaks.few;
+    paired = s.streaks.paired;
+    long = carried_long (λ x. x) nought b.streak b.streak_len ∙ s.streaks.long;
+    gaps_long = carried_long (λ x. x) nought b.streak_gaps b.streak_gaps_len ∙ s.streaks.gaps_long;
+    marks = subst (AllIn duration_min duration_max) (sym (take_kept nought b.streak_len b.streak)) s.streaks.marks;
+    between = subst (AllIn duration_min duration_max) (sym (take_kept nought b.streak_gaps_len b.streak_gaps)) s.streaks.between;
+  };
+  last_gap = s.last_gap;
+  log = record {
+    few = s.log.few;
+    long = carried_long (λ x. x) no_record b.log b.log_len ∙ s.log.long;
+    each = subst (AllByRecursion _) (sym (take_kept no_record b.log_len b.log)) s.log.each;
+  };
+  pending = s.pending;
+}
 
 -- ---- the plain form of a bank
 
@@ -317,30 +271,28 @@ bank_neat b = ap plain_bank (bank_back b) ∙ trimmed_plain b
 hyp_named : (h : TimingHypothesis) → is_hyp (plain_hyp h) ≡ true
 hyp_named h = rw (code_named h.origin, flag_named h.reported, tracker_named h.tracker)
 
-crew_named : (n : ℕ) (l : List TimingHypothesis) → all is_hyp (map plain_hyp (take n l)) ≡ true
-unfolding all
+crew_named : (n : ℕ) (l : List TimingHypothesis) → list_all is_hyp (map plain_hyp (take n l)) ≡ true
 crew_named zero l = refl
 crew_named (suc n) [] = refl
 crew_named (suc n) (h ∷ l) = rw (hyp_named h, crew_named n l)
 
-log_named : (n : ℕ) (l : List SwitchRecord) → all is_record (map plain_record (take n l)) ≡ true
-unfolding all
+log_named : (n : ℕ) (l : List SwitchRecord) → list_all is_record (map plain_record (take n l)) ≡ true
 log_named zero l = refl
 log_named (suc n) [] = refl
 log_named (suc n) (s ∷ l) = rw (flag_named s.applied, log_named n l)
 
-side_named : (a b : Bool) → is_side (as_number a) (or_zero a (as_number b)) ≡ true
-side_named true b = flag_named b
-side_named false b = refl
+side_named : (x : Given Bool) → is_side (has x) (side_number x) ≡ true
+side_named None = refl
+side_named (Some side) = flag_named side
 
 pub bank_named : (b : TimingBank) → is_bank (plain_bank b) ≡ true
 unfolding is_crew is_log
 bank_named b =
     rw (
       flag_named b.switching,
-      side_named b.has_side b.streak_side,
-      flag_named b.has_last_gap,
-      flag_named b.has_pending,
+      side_named b.streak_side,
+      flag_named (is_some b.last_gap),
+      flag_named (is_some b.pending),
       take_carried plain_hyp blank_hyp b.challengers b.challengers_len,
       crew_named b.challengers_len b.challengers,
       take_carried plain_record blank_record b.log b.log_len,

@@ -1,7 +1,10 @@
 -- What the plain form of a bank means: numbers for where a hypothesis came from and why it left, and for flags; what lies beyond a count, or is marked absent, is left empty. Definitions only.
-use Rattle.std.specs.Prelude.{Bool, false, cond, ◌&&◌, ℕ, eqb, leb, take}
+use Rattle.std.specs.Prelude.{◌≡◌, Bool, true, false, Option, Result, Ok, Err, cond, ◌&&◌, ℕ, eqb, leb, take}
+use Rattle.refusals.specs.declared.Refusal.{Refusal}
+use Rattle.refusals.specs.declared.Refusal.TheVariants.{UnsoundState}
 use Rattle.ranges.specs.Limits.{nought}
-use Rattle.marks.specs.Lists.{all}
+use Rattle.std.specs.List.{list_all}
+use Rattle.std.specs.Option.{unwrap_or}
 use Rattle.tracker.specs.Parts.{blank}
 use Rattle.bank_model.specs.declared.Origin.{Origin}
 use Rattle.bank_model.specs.declared.Origin.TheVariants.{Bootstrap, Streak, FormerPrimary}
@@ -11,7 +14,7 @@ use Rattle.bank_model.specs.declared.Departure.{Departure}
 use Rattle.bank_model.specs.declared.SwitchRecord.{SwitchRecord}
 use Rattle.rival.specs.declared.TimingHypothesis.{TimingHypothesis}
 use Rattle.bank.specs.declared.TimingBank.{TimingBank}
-use Rattle.plain_tracker.specs.Plain.{as_flag, as_number, is_flag, carried, first_of, zeros, or_nought, plain_tracker, tracker_of, is_tracker}
+use Rattle.plain_tracker.specs.Plain.{as_flag, as_number, is_flag, carried, first_of, zeros, has, optional, or_nought, plain_tracker, tracker_of, is_tracker}
 use Rattle.plain.specs.declared.PlainRecord.{PlainRecord}
 use Rattle.plain.specs.declared.PlainHypothesis.{PlainHypothesis}
 use Rattle.plain.specs.declared.PlainBank.{PlainBank}
@@ -122,9 +125,13 @@ blank_record = plain_record no_record
 
 -- ---- the bank: "Places beyond a count and numbers marked absent are no part of a state", so they are left empty
 
--- a number where a flag says that there is one, else 0
-abbrev pub or_zero : Bool → ℕ → ℕ
-or_zero has n = cond has n 0
+-- a place where there is one, else 0
+abbrev pub or_zero : Option ℕ → ℕ
+or_zero n = unwrap_or n 0
+
+-- the number of a side where there is one, else 0
+abbrev pub side_number : Option Bool → ℕ
+side_number side = as_number (unwrap_or side false)
 
 abbrev pub plain_bank : TimingBank → PlainBank
 plain_bank b = record {
@@ -140,16 +147,16 @@ plain_bank b = record {
   streak_len = b.streak_len;
   streak_gaps = first_of b.streak_gaps_len b.streak_gaps;
   streak_gaps_len = b.streak_gaps_len;
-  has_side = as_number b.has_side;
-  streak_side = or_zero b.has_side (as_number b.streak_side);
-  has_last_gap = as_number b.has_last_gap;
+  has_side = has b.streak_side;
+  streak_side = side_number b.streak_side;
+  has_last_gap = has b.last_gap;
   pad_has_last_gap = zeros 1;
-  last_gap = or_nought b.has_last_gap b.last_gap;
+  last_gap = or_nought b.last_gap;
   marks_seen = b.marks_seen;
   gaps_seen = b.gaps_seen;
-  has_pending = as_number b.has_pending;
+  has_pending = has b.pending;
   pad_has_pending = zeros 7;
-  pending = or_zero b.has_pending b.pending;
+  pending = or_zero b.pending;
   log = carried plain_record blank_record b.log_len b.log;
   log_len = b.log_len;
   started = b.started;
@@ -167,14 +174,11 @@ bank_of p = record {
   streak_len = p.streak_len;
   streak_gaps = p.streak_gaps;
   streak_gaps_len = p.streak_gaps_len;
-  has_side = as_flag p.has_side;
-  streak_side = as_flag p.streak_side;
-  has_last_gap = as_flag p.has_last_gap;
-  last_gap = p.last_gap;
+  streak_side = optional p.has_side (as_flag p.streak_side);
+  last_gap = optional p.has_last_gap p.last_gap;
   marks_seen = p.marks_seen;
   gaps_seen = p.gaps_seen;
-  has_pending = as_flag p.has_pending;
-  pending = p.pending;
+  pending = optional p.has_pending p.pending;
   log = carried record_of no_record p.log_len p.log;
   log_len = p.log_len;
   started = p.started;
@@ -190,13 +194,18 @@ abbrev pub are_flags : PlainBank → Bool
 are_flags p = (is_flag p.switching && is_side p.has_side p.streak_side) && (is_flag p.has_last_gap && is_flag p.has_pending)
 
 unfoldable pub is_crew : PlainBank → Bool
-is_crew p = all is_hyp (take p.challengers_len p.challengers)
+is_crew p = list_all is_hyp (take p.challengers_len p.challengers)
 
 unfoldable pub is_log : PlainBank → Bool
-is_log p = all is_record (take p.log_len p.log)
+is_log p = list_all is_record (take p.log_len p.log)
 
 abbrev pub is_bank : PlainBank → Bool
 is_bank p = are_flags p && (is_crew p && is_log p)
+
+-- a form that is read: what it means, where it is one; else refusal 1
+abbrev pub Reads : {A : Type 0} → Bool → A → Result A Refusal → Type 0
+Reads is x (Ok y) = (is ≡ true) × (y ≡ x)
+Reads is x (Err r) = (is ≡ false) × (r ≡ UnsoundState)
 
 -- ---- those that left
 

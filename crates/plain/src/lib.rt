@@ -2,7 +2,6 @@
 // What lies beyond a count, or is marked absent, is no part of the state: the way there leaves it empty.
 #![tactic(auto)]
 
-use bank::TimingBank;
 use plain_tracker::PlainTracker;
 
 pub mod from;
@@ -31,7 +30,7 @@ pub struct PlainHypothesis {
 
 // One switch that the bank made, or would have made: the fields of `SwitchRecord`.
 #[repr(C)]
-#[derive(Clone, Copy)]
+#[derive(Clone, Copy, Default)]
 pub struct PlainRecord {
     pub mark_index: u64,
     pub from_dit_ms: f32,
@@ -73,16 +72,9 @@ pub struct PlainBank {
 
 // A hypothesis that left: why is a number, 0 twin, 1 outscored, 2 aged, 3 replaced, 4 cleared.
 #[repr(C)]
-#[derive(Clone, Copy)]
+#[derive(Clone, Copy, Default)]
 pub struct PlainDeparture {
     pub serial: u64,
     pub cause: u8,
     pub pad_cause: [u8; 7],
-}
-
-// The bank of a plain form, where it is one.
-#[derive(Clone, Copy)]
-pub struct Unplain {
-    pub is: bool,
-    pub bank: TimingBank,
 }

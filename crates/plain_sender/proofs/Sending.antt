@@ -9,7 +9,7 @@ use lib.Ieee.{Float}
 use borrow.Author.Tests.{ne_eqb}
 use Rattle.std.specs.Prelude.{Result, Ok, Err}
 use Rattle.refusals.specs.declared.Refusal.{Refusal}
-use Rattle.refusals.specs.Refusal.{refusal_of}
+use Rattle.refusals.specs.Refusal.{coded, refusal_of}
 use Rattle.sender.specs.declared.TimingClass.{TimingClass}
 use Rattle.sender.specs.declared.TimingClass.TheVariants.{Dot, Dash, ElementGap, CharGap, WordGap}
 use Rattle.sender.specs.declared.ClassStats.{ClassStats}
@@ -18,7 +18,7 @@ use Rattle.sender.specs.Model.{Class, Timing, at, sampled, stats_of, view, view_
 use Rattle.sender.specs.Steps.{dits, observed, observed_class}
 use Rattle.sender.specs.Answers.{Left, done, observe_refusal, of_told, unless}
 use Rattle.sender.proofs.Views.{at_view}
-use Rattle.plain_sender.specs.Plain.{Observes, coded, plain_class, with_class}
+use Rattle.plain_sender.specs.Plain.{Observes, plain_class, with_class}
 
 -- ---- refusals
 

@@ -1,6 +1,7 @@
 -- What a host hands in and finds of a sender's statistics (document 01, "SenderTiming"): a class by its number, codes and readings in plain numbers. Definitions only.
-use Rattle.std.specs.Prelude.{◌≡◌, cond, ℕ, ◌+◌, T, eqb, Float}
+use Rattle.std.specs.Prelude.{◌≡◌, cond, ℕ, T, eqb, Float}
 use Rattle.std.proofs.Math.Option.{Option, none, some}
+use Rattle.refusals.specs.Refusal.{coded}
 use Rattle.ranges.specs.Limits.{nought}
 use Rattle.sender.specs.declared.TimingClass.{TimingClass}
 use Rattle.sender.specs.declared.ClassStats.{ClassStats}
@@ -11,10 +12,6 @@ use Rattle.sender.specs.Steps.{observed, dits, pauses, ratio, word_dits}
 use Rattle.sender.specs.Answers.{first_of, observe_refusal}
 use Rattle.plain_tracker.specs.Plain.{as_number, zeros}
 use Rattle.plain_sender.specs.declared.SenderReading.{SenderReading}
-
--- 0 where there is no refusal; else 128, which stands for R, and its number
-abbrev pub coded : ℕ → ℕ
-coded n = cond (eqb n 0) 0 (128 + n)
 
 -- a class in plain numbers; zeros where it is absent
 abbrev pub plain_class : Option Class → ClassStats

@@ -3,11 +3,11 @@
 #![tactic(auto)]
 
 ghost use Rattle.std.specs.Prelude.{◌≡◌};
-ghost use Rattle.refusals.specs.Refusal.{number, refusal_of};
+ghost use Rattle.refusals.specs.Refusal.{coded, refusal_of};
 ghost use Rattle.sender.specs.Model.{class_of, view, view_class};
-ghost use Rattle.plain_sender.specs.Plain.{Observes, coded, pauses_at, plain_class, reads, reading_of};
+ghost use Rattle.plain_sender.specs.Plain.{Observes, pauses_at, plain_class, reads, reading_of};
 
-use refusals::Refusal;
+use refusals::{Refusal, coded};
 use sender::door::observe_refusal;
 use sender::{ClassStats, Dits, Millis, SenderTiming, SoundTiming, TimingClass};
 
@@ -30,21 +30,11 @@ pub struct SenderReading {
     pub word_gap: ClassStats,
 }
 
-// A refusal as a host reads it.
-pub(crate) fn refused(refusal: Refusal) -> u8
-    ensures { result ≡ coded (number refusal) }
-{
-    128 + u8::from(refusal)
-}
-
 // One duration of a class: 0, or its refusal.
 pub fn observe(t: &mut SenderTiming, class: u8, dur_ms: f32, dit_ms: f32) -> u8
     ensures { Observes (class_of class) dur_ms dit_ms t.old result t.new }
 {
-    match sent(t, class, Millis(dur_ms), Millis(dit_ms)) {
-        Ok(()) => 0,
-        Err(refusal) => refused(refusal),
-    }
+    coded(sent(t, class, Millis(dur_ms), Millis(dit_ms)))
 }
 
 // The same: where no class has the number it is refused by 12, unless it is refused before that.
@@ -103,7 +93,7 @@ pub fn reading(t: SenderTiming, dit_ms: f32) -> SenderReading
     match SoundTiming::try_from(t) {
         Ok(sound) => read_of(sound, dit_ms),
         Err(refusal) => SenderReading {
-            code: refused(refusal),
+            code: refusal.host_code(),
             ..SenderReading::default()
         },
     }
@@ -115,6 +105,6 @@ pub fn pause(t: SenderTiming, dits: f32) -> u8
 {
     match t.is_pause(Dits(dits)) {
         Ok(yes) => u8::from(yes),
-        Err(refusal) => refused(refusal),
+        Err(refusal) => refusal.host_code(),
     }
 }

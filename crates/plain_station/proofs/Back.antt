@@ -11,7 +11,7 @@ use Rattle.plain_tracker.proofs.Carrying.{map_by}
 use Rattle.plain.specs.Plain.{no_hyp}
 use Rattle.plain.proofs.Back.{trimmed, trimmed_hyp, bank_back, bank_named, crew_kept, trimmed_plain, trimmed_sound, trimmed_view}
 use Rattle.rival.specs.declared.TimingHypothesis.{TimingHypothesis}
-use Rattle.bank.specs.Parts.{widest}
+use Rattle.bank_model.specs.Departures.{widest}
 use Rattle.station.specs.declared.Station.{Station}
 use Rattle.station.specs.View.{view}
 use Rattle.station.specs.Sound.{serial_of, sound}

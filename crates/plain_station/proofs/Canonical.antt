@@ -12,7 +12,8 @@ use Rattle.marks.proofs.Bounds.{both}
 use Rattle.tracker.specs.Sound as Tracking
 use Rattle.rival.specs.Sound.{hyp_sound}
 use Rattle.bank.specs.declared.TimingBank.{TimingBank}
-use Rattle.bank.specs.Parts.{All, widest}
+use Rattle.std.specs.List.{AllByRecursion}
+use Rattle.bank_model.specs.Departures.{widest}
 use Rattle.bank.specs.Sound as Banking
 use Rattle.station.specs.Sound.{own_sound, sound}
 use Rattle.station.specs.View.{view}
@@ -31,8 +32,7 @@ use Rattle.plain_station.proofs.Told.{Sized, Lawful, Whole, tracker_means, bank_
 sized : (p : PlainTracker) → TrackerInMemory p → Sized (tracker_of p)
 sized p m = record { init = m.init; ring = length-map p.ring entry_of ∙ m.ring; recent = m.recent }
 
-lawful : (l : List PlainHypothesis) → All HypInMemory l → T (all (hyp_sound standard) (map hyp_of l)) → All Lawful (map hyp_of l)
-unfolding All all
+lawful : (l : List PlainHypothesis) → AllByRecursion HypInMemory l → T (all (hyp_sound standard) (map hyp_of l)) → AllByRecursion Lawful (map hyp_of l)
 lawful [] a t = tt
 lawful (h ∷ l) a t =
     let b = both (hyp_sound standard (hyp_of h)) (all (hyp_sound standard) (map hyp_of l)) t in
@@ -64,7 +64,7 @@ module _ (p : PlainStation) (f : Formed p) where
       let e = take_carried hyp_of no_hyp l n in
       record {
         challengers = carried_long hyp_of no_hyp l n ∙ m.challengers;
-        each = subst (All Lawful) (sym e) (lawful (take n l) m.each (subst (λ k. T (all (hyp_sound standard) k)) e (crew_sound (bank_of p.bank) goods.1)));
+        each = subst (AllByRecursion Lawful) (sym e) (lawful (take n l) m.each (subst (λ k. T (all (hyp_sound standard) k)) e (crew_sound (bank_of p.bank) goods.1)));
         streak = m.streak;
         gaps = m.gaps;
         log = carried_long record_of no_record p.bank.log p.bank.log_len ∙ m.log;

@@ -8,17 +8,21 @@ use lib.Dec.{T, eqb, leb, leb→le}
 use lib.ListN.{take}
 use borrow.Author.Tests.{ne_eqb}
 use Rattle.ranges.proofs.Compare.{passed}
-use Rattle.marks.specs.Lists.{all}
+use Rattle.std.specs.Bool.{then_some}
+use Rattle.std.specs.List.{list_all}
+use Rattle.std.specs.Option.{unwrap_or}
+use Rattle.std.specs.Prelude.{is_some}
+use Rattle.ranges.specs.Limits.{nought}
 use Rattle.marks.proofs.Bounds.{both}
 use Rattle.plain_tracker.specs.declared.PlainPair.{PlainPair}
 use Rattle.plain_tracker.specs.declared.PlainEntry.{PlainEntry}
 use Rattle.plain_tracker.specs.declared.PlainTracker.{PlainTracker}
-use Rattle.plain_tracker.specs.Plain.{as_flag, as_number, is_flag, carried, first_of, zeros, or_nought, plain_pair, pair_of, is_pair, plain_entry, entry_of, blank_entry, is_entry, is_ring, plain_tracker, tracker_of, is_tracker}
+use Rattle.plain_tracker.specs.Plain.{as_flag, as_number, is_flag, carried, first_of, zeros, has, optional, plain_pair, pair_of, is_pair, plain_entry, entry_of, blank_entry, is_entry, is_ring, plain_tracker, tracker_of, is_tracker}
 use Rattle.plain_tracker.specs.Plain as Trackers
 use Rattle.plain.specs.declared.PlainHypothesis.{PlainHypothesis}
 use Rattle.plain.specs.declared.PlainRecord.{PlainRecord}
 use Rattle.plain.specs.declared.PlainBank.{PlainBank}
-use Rattle.plain.specs.Plain.{origin_code, retained, origin_of, or_zero, plain_hyp, hyp_of, no_hyp, blank_hyp, is_hyp, plain_record, record_of, no_record, blank_record, is_record, plain_bank, bank_of, is_side, are_flags, is_crew, is_log, is_bank}
+use Rattle.plain.specs.Plain.{origin_code, retained, origin_of, side_number, plain_hyp, hyp_of, no_hyp, blank_hyp, is_hyp, plain_record, record_of, no_record, blank_record, is_record, plain_bank, bank_of, is_side, are_flags, is_crew, is_log, is_bank}
 use Rattle.plain_station.specs.declared.PlainStation.{PlainStation}
 use Rattle.plain_station.specs.Plain.{plain_station, station_of, is_station}
 use Rattle.plain_station.specs.Tidied.{tidied_pair, tidied_entry, tidied_tracker, tidied_hyp, tidied_record, tidied_bank, tidied, Returned}
@@ -45,24 +49,36 @@ marks_back (suc (suc (suc n))) m t = let h = leb→le (suc (suc (suc n))) 2 t in
 no_side : (n m : ℕ) → T (is_side (suc (suc n)) m) → ⊥
 no_side n m t = rw (ne_eqb (suc (suc n)) 1 (λ h. omega arith), ne_eqb (suc (suc n)) 0 (λ h. omega arith)) at t
 
-has_side_back : (n m : ℕ) → T (is_side n m) → as_number (as_flag n) ≡ n
-has_side_back zero m t = refl
-has_side_back (suc zero) m t = refl
-has_side_back (suc (suc n)) m t = absurd (no_side n m t)
-
-side_back : (n m : ℕ) → T (is_side n m) → or_zero (as_flag n) (as_number (as_flag m)) ≡ or_zero (as_flag n) m
+side_back : (n m : ℕ) → T (is_side n m) → side_number (optional n (as_flag m)) ≡ cond (as_flag n) m 0
 side_back zero m t = refl
 side_back (suc zero) m t = number_back m t
 side_back (suc (suc n)) m t = absurd (no_side n m t)
 
+-- what may be absent: its flag, and it where the flag says that it is there
+flag_again : {A : Type 0} (n : ℕ) (x : A) → T (is_flag n) → has (optional n x) ≡ n
+flag_again n x t = go (as_flag n) ∙ number_back n t
+  where
+    go : (b : Bool) → as_number (is_some (then_some b x)) ≡ as_number b
+    go true = refl
+    go false = refl
+
+side_again : (n m : ℕ) → T (is_side n m) → has (optional n (as_flag m)) ≡ n
+side_again zero m t = refl
+side_again (suc zero) m t = refl
+side_again (suc (suc n)) m t = absurd (no_side n m t)
+
+value_again : {A : Type 0} (b : Bool) (x z : A) → unwrap_or (then_some b x) z ≡ cond b x z
+value_again true x z = refl
+value_again false x z = refl
+
 -- ---- a list cut at its count, read and written again
 
 module _ {A B : Type 0} (f : A → B) (g : B → A) (z : B) (y : A) (u : B → B) (p : B → Bool) (back : (x : B) → T (p x) → f (g x) ≡ u x) where
-  again : (n : ℕ) (l : List B) → T (all p (take n l)) → carried f z n (carried g y n l) ≡ carried u z n l
-  unfolding carried all
+  again : (n : ℕ) (l : List B) → T (list_all p (take n l)) → carried f z n (carried g y n l) ≡ carried u z n l
+  unfolding carried
   again n [] t = refl
   again zero (x ∷ l) t = ap (λ r. z ∷ r) (again zero l tt)
-  again (suc n) (x ∷ l) t = let b = both (p x) (all p (take n l)) t in λ i. back x b.0 i ∷ again n l b.1 i
+  again (suc n) (x ∷ l) t = let b = both (p x) (list_all p (take n l)) t in λ i. back x b.0 i ∷ again n l b.1 i
 
 -- ---- a tracker
 
@@ -91,14 +107,13 @@ entry_again p t = λ i. record {
   pre_hi = p.pre_hi;
 }
 
-ring_again : (n : ℕ) (l : List PlainEntry) → T (all is_entry (take n l)) → carried plain_entry blank_entry n (map entry_of l) ≡ carried tidied_entry blank_entry n l
-unfolding carried all
+ring_again : (n : ℕ) (l : List PlainEntry) → T (list_all is_entry (take n l)) → carried plain_entry blank_entry n (map entry_of l) ≡ carried tidied_entry blank_entry n l
+unfolding carried
 ring_again n [] t = refl
 ring_again zero (x ∷ l) t = ap (λ r. blank_entry ∷ r) (ring_again zero l tt)
-ring_again (suc n) (x ∷ l) t = let b = both (is_entry x) (all is_entry (take n l)) t in λ i. entry_again x b.0 i ∷ ring_again n l b.1 i
+ring_again (suc n) (x ∷ l) t = let b = both (is_entry x) (list_all is_entry (take n l)) t in λ i. entry_again x b.0 i ∷ ring_again n l b.1 i
 
 pub tracker_again : (p : PlainTracker) → T (is_tracker p) → plain_tracker (tracker_of p) ≡ tidied_tracker p
-unfolding is_ring
 tracker_again p t =
     let a = both (is_pair p.pair) (Trackers.are_flags p && is_ring p) t in
     let b = both (Trackers.are_flags p) (is_ring p) a.1 in
@@ -110,18 +125,18 @@ tracker_again p t =
       pair = pair_again p.pair a.0 i;
       ring = ring_again p.ring_len p.ring b.1 i;
       ring_len = p.ring_len;
-      has_wpm = number_back p.has_wpm c.0 i;
+      has_wpm = flag_again p.has_wpm p.wpm_ema c.0 i;
       pad_has_wpm = zeros 3;
-      wpm_ema = or_nought (as_flag p.has_wpm) p.wpm_ema;
+      wpm_ema = value_again (as_flag p.has_wpm) p.wpm_ema nought i;
       recent = first_of p.recent_len p.recent;
       pad_recent = zeros 4;
       recent_len = p.recent_len;
-      has_egap = number_back p.has_egap d.0 i;
+      has_egap = flag_again p.has_egap p.mu_egap_ms d.0 i;
       pad_has_egap = zeros 3;
-      mu_egap_ms = or_nought (as_flag p.has_egap) p.mu_egap_ms;
-      has_hint = number_back p.has_hint e.0 i;
+      mu_egap_ms = value_again (as_flag p.has_egap) p.mu_egap_ms nought i;
+      has_hint = flag_again p.has_hint p.ratio_hint e.0 i;
       pad_has_hint = zeros 3;
-      ratio_hint = or_nought (as_flag p.has_hint) p.ratio_hint;
+      ratio_hint = value_again (as_flag p.has_hint) p.ratio_hint nought i;
       regime = p.regime;
       badlock_recovered = number_back p.badlock_recovered f.0 i;
       lo_uncorroborated = number_back p.lo_uncorroborated f.1 i;
@@ -181,16 +196,16 @@ bank_again p t =
       streak_len = p.streak_len;
       streak_gaps = first_of p.streak_gaps_len p.streak_gaps;
       streak_gaps_len = p.streak_gaps_len;
-      has_side = has_side_back p.has_side p.streak_side d.1 i;
+      has_side = side_again p.has_side p.streak_side d.1 i;
       streak_side = side_back p.has_side p.streak_side d.1 i;
-      has_last_gap = number_back p.has_last_gap e.0 i;
+      has_last_gap = flag_again p.has_last_gap p.last_gap e.0 i;
       pad_has_last_gap = zeros 1;
-      last_gap = or_nought (as_flag p.has_last_gap) p.last_gap;
+      last_gap = value_again (as_flag p.has_last_gap) p.last_gap nought i;
       marks_seen = p.marks_seen;
       gaps_seen = p.gaps_seen;
-      has_pending = number_back p.has_pending e.1 i;
+      has_pending = flag_again p.has_pending p.pending e.1 i;
       pad_has_pending = zeros 7;
-      pending = or_zero (as_flag p.has_pending) p.pending;
+      pending = value_again (as_flag p.has_pending) p.pending 0 i;
       log = again plain_record record_of blank_record no_record tidied_record is_record record_again p.log_len p.log b.1 i;
       log_len = p.log_len;
       started = p.started;

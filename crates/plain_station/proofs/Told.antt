@@ -2,7 +2,8 @@
 use mathlib.Core.Path.{◌≡◌, refl, ap, sym, ◌∙◌, subst}
 use mathlib.Core.Bool.{Bool, true, false, cond, ◌&&◌}
 use mathlib.Core.List.{List, [], ◌∷◌, map}
-use mathlib.Core.Option.{Option, none, some}
+use Rattle.std.specs.List.{AllByRecursion}
+use Rattle.std.specs.Prelude.{Option as Given, Some, None}
 use Prim.Native.Nat.{ℕ, zero, suc, ◌≤◌}
 use native.Mathlib.Omega.{arith}
 use lib.Dec.{T, leb, leb→le}
@@ -12,7 +13,7 @@ use Rattle.ranges.specs.Settings.{standard}
 use Rattle.ranges.specs.Limits.{nought}
 use Rattle.marks.specs.Lists.{all}
 use Rattle.marks.proofs.Bounds.{both}
-use Rattle.marks.proofs.Testing.{places}
+use Rattle.std.proofs.lemmas.List.{length-take-le}
 use Rattle.pair.specs.Model.{held}
 use Rattle.tracker.specs.declared.SpeedTracker.{SpeedTracker}
 use Rattle.tracker.specs.Model as Tracked
@@ -24,23 +25,22 @@ use Rattle.rival.specs.Sound.{same, logs_same, scores_sound, hyp_sound}
 use Rattle.rival.specs.View.{view_hyp}
 use Rattle.rival.proofs.Sounding.{ln_fits, same_is}
 use Rattle.bank.specs.declared.TimingBank.{TimingBank}
-use Rattle.bank.specs.Parts.{All, widest}
+use Rattle.bank_model.specs.Departures.{widest}
 use Rattle.bank.specs.Sound as Banking
 use Rattle.bank.specs.View as Banked
-use Rattle.bank.specs.View.{given}
-use Rattle.plain_tracker.specs.Plain.{as_number, carried, zeros, or_nought, plain_entry, blank_entry, plain_tracker}
-use Rattle.plain.specs.Plain.{origin_code, retained, or_zero, plain_hyp, blank_hyp, plain_record, blank_record, plain_bank}
+use Rattle.plain_tracker.specs.Plain.{as_number, carried, zeros, has, or_nought, plain_entry, blank_entry, plain_tracker}
+use Rattle.plain.specs.Plain.{origin_code, retained, or_zero, side_number, plain_hyp, blank_hyp, plain_record, blank_record, plain_bank}
 
 -- ---- a list that is cut at its count
 
 -- the count
 counted : {A : Type 0} (l k : List A) (n m : ℕ) → n ≤ length l → m ≤ length k → take n l ≡ take m k → n ≡ m
-counted l k n m a b e = sym (places l n a) ∙ ap length e ∙ places k m b
+counted l k n m a b e = sym (length-take-le n l a) ∙ ap length e ∙ length-take-le m k b
 
 -- what a function makes of its places, if it makes one thing of all that mean the same
 module _ {A B C : Type 0} (f : A → B) (z : B) (v : A → C) (P : A → Type 0) (same : (x y : A) → P x → P y → v x ≡ v y → f x ≡ f y) where
-  carried_means : (l k : List A) (n m : ℕ) → length l ≡ length k → n ≤ length l → m ≤ length k → All P (take n l) → All P (take m k) → map v (take n l) ≡ map v (take m k) → carried f z n l ≡ carried f z m k
-  unfolding carried All
+  carried_means : (l k : List A) (n m : ℕ) → length l ≡ length k → n ≤ length l → m ≤ length k → AllByRecursion P (take n l) → AllByRecursion P (take m k) → map v (take n l) ≡ map v (take m k) → carried f z n l ≡ carried f z m k
+  unfolding carried
   carried_means [] [] n m w a b p q e = refl
   carried_means [] (y ∷ k) n m w a b p q e = absurd (omega arith)
   carried_means (x ∷ l) [] n m w a b p q e = absurd (omega arith)
@@ -53,8 +53,7 @@ module _ {A B C : Type 0} (f : A → B) (z : B) (v : A → C) (P : A → Type 0)
       λ i. same x y p.0 q.0 h i ∷ carried_means l k n m (omega arith) (omega arith) (omega arith) p.1 q.1 t i
 
 -- each of a list, of which nothing is asked
-each : {A : Type 0} (l : List A) → All (λ x. Unit {0}) l
-unfolding All
+each : {A : Type 0} (l : List A) → AllByRecursion (λ x. Unit {0}) l
 each [] = tt
 each (x ∷ l) = (tt, each l)
 
@@ -63,29 +62,11 @@ first_means f z l k n m w a b e = carried_means f z (λ x. x) (λ x. Unit {0}) (
 
 -- ---- what may be absent
 
-held_flag : (a b : Bool) (x y : Float) → held a x ≡ held b y → a ≡ b
-held_flag true true x y e = refl
-held_flag true false x y e = let h : ◌≡◌ {A = ℕ} 0 1 = cc in absurd (omega arith)
-held_flag false true x y e = let h : ◌≡◌ {A = ℕ} 0 1 = cc in absurd (omega arith)
-held_flag false false x y e = refl
-
-held_number : (a b : Bool) (x y : Float) → held a x ≡ held b y → or_nought a x ≡ or_nought b y
-held_number true true x y e = cc
-held_number true false x y e = let h : ◌≡◌ {A = ℕ} 0 1 = cc in absurd (omega arith)
-held_number false true x y e = let h : ◌≡◌ {A = ℕ} 0 1 = cc in absurd (omega arith)
-held_number false false x y e = refl
-
-given_flag : {A : Type 0} (a b : Bool) (x y : A) → given a x ≡ given b y → a ≡ b
-given_flag true true x y e = refl
-given_flag true false x y e = let h : ◌≡◌ {A = ℕ} 0 1 = cc in absurd (omega arith)
-given_flag false true x y e = let h : ◌≡◌ {A = ℕ} 0 1 = cc in absurd (omega arith)
-given_flag false false x y e = refl
-
-given_value : {A B : Type 0} (f : A → B) (z : B) (a b : Bool) (x y : A) → given a x ≡ given b y → cond a (f x) z ≡ cond b (f y) z
-given_value f z true true x y e = let h : x ≡ y = cc in ap f h
-given_value f z true false x y e = let h : ◌≡◌ {A = ℕ} 0 1 = cc in absurd (omega arith)
-given_value f z false true x y e = let h : ◌≡◌ {A = ℕ} 0 1 = cc in absurd (omega arith)
-given_value f z false false x y e = refl
+held_is : {A : Type 0} (x y : Given A) → held x ≡ held y → x ≡ y
+held_is None None e = refl
+held_is None (Some y) e = absurd cc
+held_is (Some x) None e = absurd cc
+held_is (Some x) (Some y) e = let h : x ≡ y = cc in ap Some h
 
 -- ---- a tracker
 
@@ -134,18 +115,18 @@ module _ (t u : SpeedTracker) (a : Sized t) (b : Sized u) (s : T (Tracking.sound
         };
         ring = first_means plain_entry blank_entry t.ring u.ring t.ring_len u.ring_len (a2 ∙ sym b2) (omega arith) (omega arith) rings i;
         ring_len = counted t.ring u.ring t.ring_len u.ring_len (omega arith) (omega arith) rings i;
-        has_wpm = as_number (held_flag t.has_wpm u.has_wpm t.wpm_ema u.wpm_ema (ap (λ m. m.wpm) e) i);
+        has_wpm = has (held_is t.wpm_ema u.wpm_ema (ap (λ m. m.wpm) e) i);
         pad_has_wpm = zeros 3;
-        wpm_ema = held_number t.has_wpm u.has_wpm t.wpm_ema u.wpm_ema (ap (λ m. m.wpm) e) i;
+        wpm_ema = or_nought (held_is t.wpm_ema u.wpm_ema (ap (λ m. m.wpm) e) i);
         recent = first_means (λ x. x) nought t.recent u.recent t.recent_len u.recent_len (a3 ∙ sym b3) (omega arith) (omega arith) recents i;
         pad_recent = zeros 4;
         recent_len = counted t.recent u.recent t.recent_len u.recent_len (omega arith) (omega arith) recents i;
-        has_egap = as_number (held_flag t.has_egap u.has_egap t.mu_egap_ms u.mu_egap_ms (ap (λ m. m.egap) e) i);
+        has_egap = has (held_is t.mu_egap_ms u.mu_egap_ms (ap (λ m. m.egap) e) i);
         pad_has_egap = zeros 3;
-        mu_egap_ms = held_number t.has_egap u.has_egap t.mu_egap_ms u.mu_egap_ms (ap (λ m. m.egap) e) i;
-        has_hint = as_number (held_flag t.has_hint u.has_hint t.ratio_hint u.ratio_hint (ap (λ m. m.hint) e) i);
+        mu_egap_ms = or_nought (held_is t.mu_egap_ms u.mu_egap_ms (ap (λ m. m.egap) e) i);
+        has_hint = has (held_is t.ratio_hint u.ratio_hint (ap (λ m. m.hint) e) i);
         pad_has_hint = zeros 3;
-        ratio_hint = held_number t.has_hint u.has_hint t.ratio_hint u.ratio_hint (ap (λ m. m.hint) e) i;
+        ratio_hint = or_nought (held_is t.ratio_hint u.ratio_hint (ap (λ m. m.hint) e) i);
         regime = (e i).regime;
         badlock_recovered = as_number (e i).recovered;
         lo_uncorroborated = as_number (e i).uncorroborated;
@@ -207,7 +188,7 @@ hyp_means h g a b e =
 
 pub record Whole (b : TimingBank) : Type 0 where
   pub challengers : length b.challengers ≡ 8
-  pub each : All Lawful (take b.challengers_len b.challengers)
+  pub each : AllByRecursion Lawful (take b.challengers_len b.challengers)
   pub streak : length b.streak ≡ 4
   pub gaps : length b.streak_gaps ≡ 4
   pub log : length b.log ≡ 16
@@ -240,7 +221,7 @@ within b w =
 
 -- the count of a list of which only what each means is known
 counted_means : {A C : Type 0} (v : A → C) (l k : List A) (n m : ℕ) → n ≤ length l → m ≤ length k → map v (take n l) ≡ map v (take m k) → n ≡ m
-counted_means v l k n m a b e = sym (length-map (take n l) v ∙ places l n a) ∙ ap length e ∙ length-map (take m k) v ∙ places k m b
+counted_means v l k n m a b e = sym (length-map (take n l) v ∙ length-take-le n l a) ∙ ap length e ∙ length-map (take m k) v ∙ length-take-le m k b
 
 module _ (b c : TimingBank) (p : Whole b) (q : Whole c) (e : Banked.view b ≡ Banked.view c) where
   crews : map view_hyp (take b.challengers_len b.challengers) ≡ map view_hyp (take c.challengers_len c.challengers)
@@ -255,14 +236,14 @@ module _ (b c : TimingBank) (p : Whole b) (q : Whole c) (e : Banked.view b ≡ B
   logged : take b.log_len b.log ≡ take c.log_len c.log
   logged = ap (λ m. m.log) e
 
-  sides : given b.has_side b.streak_side ≡ given c.has_side c.streak_side
-  sides = ap (λ m. m.evidence.side) e
+  sides : b.streak_side ≡ c.streak_side
+  sides = held_is b.streak_side c.streak_side (ap (λ m. m.evidence.side) e)
 
-  lasts : given b.has_last_gap b.last_gap ≡ given c.has_last_gap c.last_gap
-  lasts = ap (λ m. m.evidence.last_gap) e
+  lasts : b.last_gap ≡ c.last_gap
+  lasts = held_is b.last_gap c.last_gap (ap (λ m. m.evidence.last_gap) e)
 
-  pendings : given b.has_pending b.pending ≡ given c.has_pending c.pending
-  pendings = ap (λ m. m.pending) e
+  pendings : b.pending ≡ c.pending
+  pendings = held_is b.pending c.pending (ap (λ m. m.pending) e)
 
   pub bank_means : plain_bank b ≡ plain_bank c
   bank_means =
@@ -281,16 +262,16 @@ module _ (b c : TimingBank) (p : Whole b) (q : Whole c) (e : Banked.view b ≡ B
         streak_len = counted b.streak c.streak b.streak_len c.streak_len v.streak w.streak streaks i;
         streak_gaps = first_means (λ x. x) nought b.streak_gaps c.streak_gaps b.streak_gaps_len c.streak_gaps_len (p.gaps ∙ sym q.gaps) v.gaps w.gaps gaps i;
         streak_gaps_len = counted b.streak_gaps c.streak_gaps b.streak_gaps_len c.streak_gaps_len v.gaps w.gaps gaps i;
-        has_side = as_number (given_flag b.has_side c.has_side b.streak_side c.streak_side sides i);
-        streak_side = given_value as_number 0 b.has_side c.has_side b.streak_side c.streak_side sides i;
-        has_last_gap = as_number (given_flag b.has_last_gap c.has_last_gap b.last_gap c.last_gap lasts i);
+        has_side = has (sides i);
+        streak_side = side_number (sides i);
+        has_last_gap = has (lasts i);
         pad_has_last_gap = zeros 1;
-        last_gap = given_value (λ x. x) nought b.has_last_gap c.has_last_gap b.last_gap c.last_gap lasts i;
+        last_gap = or_nought (lasts i);
         marks_seen = (e i).marks;
         gaps_seen = (e i).gaps;
-        has_pending = as_number (given_flag b.has_pending c.has_pending b.pending c.pending pendings i);
+        has_pending = has (pendings i);
         pad_has_pending = zeros 7;
-        pending = given_value (λ x. x) 0 b.has_pending c.has_pending b.pending c.pending pendings i;
+        pending = or_zero (pendings i);
         log = first_means plain_record blank_record b.log c.log b.log_len c.log_len (p.log ∙ sym q.log) v.log w.log logged i;
         log_len = counted b.log c.log b.log_len c.log_len v.log w.log logged i;
         started = (e i).started;

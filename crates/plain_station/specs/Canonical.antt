@@ -5,7 +5,7 @@ use Rattle.std.specs.Float.Ieee.{fits}
 use Rattle.ranges.specs.Settings.{standard}
 use Rattle.plain_tracker.specs.declared.PlainTracker.{PlainTracker}
 use Rattle.plain.specs.declared.PlainHypothesis.{PlainHypothesis}
-use Rattle.bank.specs.Parts.{All}
+use Rattle.std.specs.List.{AllByRecursion}
 use Rattle.station.specs.Sound.{sound}
 use Rattle.station.specs.View.{view}
 use Rattle.plain_station.specs.declared.PlainStation.{PlainStation}
@@ -26,7 +26,7 @@ pub record HypInMemory (p : PlainHypothesis) : Type 0 where
 pub record InMemory (p : PlainStation) : Type 0 where
   pub primary : TrackerInMemory p.primary
   pub challengers : length p.bank.challengers ≡ 8
-  pub each : All HypInMemory (take p.bank.challengers_len p.bank.challengers)
+  pub each : AllByRecursion HypInMemory (take p.bank.challengers_len p.bank.challengers)
   pub streak : length p.bank.streak ≡ 4
   pub gaps : length p.bank.streak_gaps ≡ 4
   pub log : length p.bank.log ≡ 16

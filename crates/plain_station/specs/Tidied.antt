@@ -1,13 +1,14 @@
 -- A form with what is no part of a state emptied, and every other number as it stands. Definitions only.
 use Rattle.std.specs.Prelude.{◌≡◌, true, cond, eqb}
+use Rattle.ranges.specs.Limits.{nought}
 use Rattle.plain_tracker.specs.declared.PlainPair.{PlainPair}
 use Rattle.plain_tracker.specs.declared.PlainEntry.{PlainEntry}
 use Rattle.plain_tracker.specs.declared.PlainTracker.{PlainTracker}
-use Rattle.plain_tracker.specs.Plain.{as_flag, carried, first_of, zeros, or_nought, blank_entry}
+use Rattle.plain_tracker.specs.Plain.{as_flag, carried, first_of, zeros, blank_entry}
 use Rattle.plain.specs.declared.PlainHypothesis.{PlainHypothesis}
 use Rattle.plain.specs.declared.PlainRecord.{PlainRecord}
 use Rattle.plain.specs.declared.PlainBank.{PlainBank}
-use Rattle.plain.specs.Plain.{or_zero, blank_hyp, blank_record}
+use Rattle.plain.specs.Plain.{blank_hyp, blank_record}
 use Rattle.plain_station.specs.declared.PlainStation.{PlainStation}
 use Rattle.plain_station.specs.Plain.{plain_station, station_of, is_station}
 
@@ -40,16 +41,16 @@ tidied_tracker p = record {
   ring_len = p.ring_len;
   has_wpm = p.has_wpm;
   pad_has_wpm = zeros 3;
-  wpm_ema = or_nought (as_flag p.has_wpm) p.wpm_ema;
+  wpm_ema = cond (as_flag p.has_wpm) p.wpm_ema nought;
   recent = first_of p.recent_len p.recent;
   pad_recent = zeros 4;
   recent_len = p.recent_len;
   has_egap = p.has_egap;
   pad_has_egap = zeros 3;
-  mu_egap_ms = or_nought (as_flag p.has_egap) p.mu_egap_ms;
+  mu_egap_ms = cond (as_flag p.has_egap) p.mu_egap_ms nought;
   has_hint = p.has_hint;
   pad_has_hint = zeros 3;
-  ratio_hint = or_nought (as_flag p.has_hint) p.ratio_hint;
+  ratio_hint = cond (as_flag p.has_hint) p.ratio_hint nought;
   regime = p.regime;
   badlock_recovered = p.badlock_recovered;
   lo_uncorroborated = p.lo_uncorroborated;
@@ -99,15 +100,15 @@ tidied_bank p = record {
   streak_gaps = first_of p.streak_gaps_len p.streak_gaps;
   streak_gaps_len = p.streak_gaps_len;
   has_side = p.has_side;
-  streak_side = or_zero (as_flag p.has_side) p.streak_side;
+  streak_side = cond (as_flag p.has_side) p.streak_side 0;
   has_last_gap = p.has_last_gap;
   pad_has_last_gap = zeros 1;
-  last_gap = or_nought (as_flag p.has_last_gap) p.last_gap;
+  last_gap = cond (as_flag p.has_last_gap) p.last_gap nought;
   marks_seen = p.marks_seen;
   gaps_seen = p.gaps_seen;
   has_pending = p.has_pending;
   pad_has_pending = zeros 7;
-  pending = or_zero (as_flag p.has_pending) p.pending;
+  pending = cond (as_flag p.has_pending) p.pending 0;
   log = carried tidied_record blank_record p.log_len p.log;
   log_len = p.log_len;
   started = p.started;

@@ -3,28 +3,25 @@ ghost use Rattle.std.specs.Prelude.{◌≡◌};
 ghost use Rattle.plain_station.specs.Plain.{plain_station};
 
 use crate::PlainStation;
-use plain::to::plain_bank;
-use plain_tracker::to::plain_tracker;
+use plain::PlainBank;
+use plain_tracker::PlainTracker;
 use station::Station;
 
 // A station.
-pub fn plain_station(s: Station) -> PlainStation
-    ensures { result ≡ plain_station s }
-{
-    let t = s.primary;
-    let b = s.bank;
-    let c = s.counts;
-    let primary = plain_tracker(t);
-    let bank = plain_bank(b);
-    PlainStation {
-        primary,
-        serial: s.serial,
-        bank,
-        twins: c.twins,
-        outscored: c.outscored,
-        aged: c.aged,
-        replaced: c.replaced,
-        cleared: c.cleared,
-        accepted: s.accepted,
+impl From<Station> for PlainStation {
+    ghost from_gives = { λ s p. p ≡ plain_station s };
+
+    fn from(s: Station) -> PlainStation {
+        PlainStation {
+            primary: PlainTracker::from(s.primary),
+            serial: s.serial,
+            bank: PlainBank::from(s.bank),
+            twins: s.counts.twins,
+            outscored: s.counts.outscored,
+            aged: s.counts.aged,
+            replaced: s.counts.replaced,
+            cleared: s.counts.cleared,
+            accepted: s.accepted,
+        }
     }
 }

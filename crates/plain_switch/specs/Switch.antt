@@ -1,11 +1,13 @@
 -- What a host hands in and finds at a switch call: a bank and the tracker that it lends, in plain form (document 01, "TimingBank"). Definitions only.
-use Rattle.std.specs.Prelude.{◌≡◌, Bool, true, false, cond, ◌&&◌, ℕ, ◌+◌, eqb}
+use Rattle.std.specs.Prelude.{◌≡◌, Bool, true, false, cond, ◌&&◌, Result, Ok, Err, ℕ, ◌+◌, eqb}
+use Rattle.refusals.specs.declared.Refusal.{Refusal}
+use Rattle.refusals.specs.Refusal.{host_code}
 use Rattle.ranges.specs.Settings.{standard}
 use Rattle.tracker.specs.Model as Tracked
 use Rattle.tracker.specs.Sound as Tracking
 use Rattle.bank_model.specs.Steps.{Taken, take_switch}
 use Rattle.bank.specs.View.{view}
-use Rattle.bank.specs.Parts.{widest}
+use Rattle.bank_model.specs.Departures.{widest}
 use Rattle.bank.specs.Sound.{sound}
 use Rattle.bank.specs.Answers.{switch_refusal}
 use Rattle.plain_tracker.specs.declared.PlainTracker.{PlainTracker}
@@ -20,6 +22,11 @@ refusal b p = cond (is_bank b && is_tracker p) (switch_refusal standard (bank_of
 -- what the call makes of the bank, of the primary and of its serial
 abbrev pub outcome : PlainBank → PlainTracker → ℕ → Taken
 outcome b p serial = take_switch (view (bank_of b)) (Tracked.view (tracker_of p)) serial
+
+-- the code of what is told: 2 switched, 3 nothing to do; 128 stands for R
+abbrev pub switch_code : Result Bool Refusal → ℕ
+switch_code (Ok on) = cond on 2 3
+switch_code (Err r) = host_code r
 
 -- the bank b, the lent primary p and its serial: the code, and what stands in their places then
 pub record Exchanges (b : PlainBank) (p : PlainTracker) (serial code : ℕ) (c : PlainBank) (q : PlainTracker) (n : ℕ) : Type 0 where

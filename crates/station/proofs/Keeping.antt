@@ -1,5 +1,5 @@
 -- An accepted call keeps the books of any solid station, and a fresh station has them. Assumes nothing.
-use mathlib.Core.Path.{◌≡◌, refl, ap, sym, ◌∙◌, subst}
+use mathlib.Core.Path.{◌≡◌, refl, ap, sym, subst}
 use mathlib.Core.Bool.{Bool}
 use Prim.Native.Nat.{ℕ, ◌<◌}
 use native.Mathlib.Omega.{arith}
@@ -10,11 +10,10 @@ use Rattle.tracker.specs.Model.{Tracker}
 use Rattle.tracker.specs.Model as Tracked
 use Rattle.tracker.specs.Steps as Tracking
 use Rattle.tracker.specs.Sound.{sound}
-use Rattle.bank_model.specs.Model.{Bank}
 use Rattle.bank_model.specs.Steps.{fresh_bank}
 use Rattle.bank.specs.declared.TimingBank.{TimingBank}
 use Rattle.bank.specs.View as Banked
-use Rattle.bank.specs.Parts.{Sturdy}
+use Rattle.bank.specs.Sturdy.{Sturdy}
 use Rattle.station_model.specs.declared.Counts.{Counts}
 use Rattle.station_model.specs.declared.Event.{Event}
 use Rattle.station_model.specs.Station.{fresh, acted, accepted, refusal, outcome, step}
@@ -52,15 +51,16 @@ unfolding step
 step_accepted k m e z = sym (ap (outcome k m e) z)
 
 -- ---- a start
-module _ (width : ℕ) (switching : Bool) (p : SpeedTracker) (b : TimingBank) (x : (Tracked.view p ≡ Tracking.fresh) × T (sound standard p)) (y : (Banked.view b ≡ fresh_bank width switching) × Sturdy b) where
-  abbrev none : Counts
-  none = record { twins = 0; outscored = 0; aged = 0; replaced = 0; cleared = 0 }
+abbrev none : Counts
+none = record { twins = 0; outscored = 0; aged = 0; replaced = 0; cleared = 0 }
 
+module _ (width : ℕ) (switching : Bool) (p : SpeedTracker) (b : TimingBank) (n : Counts)
+    (x : (Tracked.view p ≡ Tracking.fresh) × T (sound standard p)) (y : Banked.view b ≡ fresh_bank width switching) (t : Sturdy b) (z : n ≡ none) where
   abbrev started : Station
-  started = record { primary = p; serial = 0; bank = b; counts = none; accepted = 0 }
+  started = record { primary = p; serial = 0; bank = b; counts = n; accepted = 0 }
 
   is : view started ≡ fresh width switching
-  is = ap (λ (t : Tracker). record { primary = t; serial = 0; bank = Banked.view b; counts = none; accepted = 0 }) x.0 ∙ ap (λ (c : Bank). record { primary = Tracking.fresh; serial = 0; bank = c; counts = none; accepted = 0 }) y.0
+  is = λ i. record { primary = x.0 i; serial = 0; bank = y i; counts = z i; accepted = 0 }
 
   pub fresh_is : (view started ≡ fresh width switching) × Steady started
-  fresh_is = (is, record { solid = record { primary = x.1; bank = y.1; books = subst Booked (sym is) (booked_fresh width switching) }; unready = λ e. ap (λ (m : Model.Station). m.bank.pending) is })
+  fresh_is = (is, record { solid = record { primary = x.1; bank = t; books = subst Booked (sym is) (booked_fresh width switching) }; unready = λ e. ap (λ (m : Model.Station). m.bank.pending) is })

@@ -1,5 +1,4 @@
 pub mod Tallying
-pub mod Acting
 pub mod Serials
 pub mod Sounding
 pub mod Keeping

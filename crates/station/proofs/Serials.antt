@@ -1,14 +1,11 @@
 -- The serials of a station: collected, tested, and counted. Assumes nothing.
-use mathlib.Core.Path.{◌≡◌, refl, ap, sym, ◌∙◌, subst}
-use mathlib.Core.Bool.{Bool, true, false, not, ◌&&◌, true≢false}
-use mathlib.Core.List.{List, [], ◌∷◌, ◌++◌, map}
-use Prim.Native.Nat.{ℕ, suc, ◌+◌, ◌-◌, ◌≤◌, ◌<◌}
-use native.Mathlib.Numerals.{add-one}
+use mathlib.Core.Path.{◌≡◌, refl, ap, sym, subst}
+use mathlib.Core.Bool.{Bool, true, false, not}
+use mathlib.Core.List.{List, [], ◌∷◌, map}
+use Prim.Native.Nat.{ℕ, ◌+◌, ◌≤◌, ◌<◌}
 use native.Mathlib.Omega.{arith}
-use borrow.Author.Tests.{ltb-true, ltb-false, eqb-true, eq-eqb, ne_eqb, not-true}
+use borrow.Author.Tests.{ltb-true, ltb-false, eqb-true, eq-eqb, ne_eqb}
 use lib.Dec.{T, ltb, eqb, leb→le, le→leb}
-use lib.ListN.{length, take, drop, set, get_or, length-set, length-drop, drop_of_length-le}
-use lib.Seq.{take_all, take-suc, take-suc-set, drop-cons}
 use Rattle.marks.specs.Lists.{all}
 use Rattle.marks.proofs.Bounds.{both, join}
 use Rattle.rival.specs.declared.TimingHypothesis.{TimingHypothesis}
@@ -16,70 +13,6 @@ use Rattle.rival.specs.View.{view_hyp}
 use Rattle.station_model.specs.Station.{ind}
 use Rattle.station_model.specs.Watch.{among}
 use Rattle.station.specs.Sound.{serial_of, up_to, differs, distinct, held_once}
-
--- ---- the loop that collects them
-module _ (first : ℕ) (crew : List TimingHypothesis) (n : ℕ) where
-  pub record Collecting (out : List ℕ) (i : ℕ) : Type 0 where
-    pub upto : i ≤ n
-    pub long : length out ≡ 9
-    pub is : take (suc i) out ≡ first ∷ map serial_of (take i crew)
-
-  pub collect_begins : (rest : List ℕ) → length rest ≡ 8 → Collecting (first ∷ rest) 0
-  collect_begins rest l = record { upto = omega arith; long = ap suc l; is = refl }
-
-  map_append : (l : List TimingHypothesis) (h : TimingHypothesis) → map serial_of (l ++ (h ∷ [])) ≡ map serial_of l ++ (h.serial ∷ [])
-  map_append [] h = refl
-  map_append (x ∷ l) h = ap (λ (r : List ℕ). x.serial ∷ r) (map_append l h)
-
-  pub collect_turns : (out : List ℕ) (i : ℕ) (z : TimingHypothesis) → i < n → n ≤ 8 → length crew ≡ 8 → Collecting out i → Collecting (set out (i + 1) (get_or crew i z).serial) (i + 1)
-  collect_turns out i z h m l k =
-      let o = k.long in
-      record {
-        upto = omega arith;
-        long = length-set out (i + 1) (get_or crew i z).serial ∙ k.long;
-        is =
-            take-suc-set out (i + 1) (get_or crew i z).serial (omega arith)
-            ∙ ap (λ (j : ℕ). take j out ++ ((get_or crew i z).serial ∷ [])) (add-one i)
-            ∙ ap (λ (r : List ℕ). r ++ ((get_or crew i z).serial ∷ [])) k.is
-            ∙ ap (λ (r : List ℕ). first ∷ r) (sym (map_append (take i crew) (get_or crew i z)) ∙ ap (map serial_of) (sym (take-suc crew i z (omega arith)) ∙ ap (λ (j : ℕ). take j crew) (sym (add-one i))));
-      }
-
-  pub collect_ends : (out : List ℕ) (i : ℕ) → n ≤ i → Collecting out i → (take (suc n) out ≡ first ∷ map serial_of (take n crew)) × (length out ≡ 9)
-  collect_ends out i h k =
-      let u = k.upto in
-      let e : n ≡ i = omega arith in
-      (ap (λ (j : ℕ). take (suc j) out) e ∙ k.is ∙ ap (λ (j : ℕ). first ∷ map serial_of (take j crew)) (sym e), k.long)
-
--- ---- the loop that compares each with those after it
-back : (l : List ℕ) (n : ℕ) → take (length l - n) (drop n l) ≡ drop n l
-back l n = take_all (length l - n) (drop n l) (omega (arith, length-drop n l))
-
-module _ (l : List ℕ) where
-  pub record Parting (i : ℕ) : Type 0 where
-    pub upto : i ≤ length l
-    pub is : distinct l ≡ distinct (drop i l)
-
-  pub part_begins : Parting 0
-  part_begins = record { upto = omega arith; is = refl }
-
-  module _ (i : ℕ) (z : ℕ) (b : Bool) (h : i < length l) (k : Parting i) (e : b ≡ all (differs (get_or l i z)) (take (length l - (i + 1)) (drop (i + 1) l))) where
-    next : distinct l ≡ (b && distinct (drop (i + 1) l))
-    unfolding distinct
-    next = k.is ∙ ap distinct (drop-cons l i z h) ∙ ap (λ (j : ℕ). all (differs (get_or l i z)) (drop j l) && distinct (drop j l)) (sym (add-one i)) ∙ ap (λ (x : Bool). x && distinct (drop (i + 1) l)) (ap (all (differs (get_or l i z))) (sym (back l (i + 1))) ∙ sym e)
-
-    pub part_turns : not b ≡ false → Parting (i + 1)
-    part_turns t = record { upto = omega arith; is = next ∙ go b t }
-      where
-        go : (b : Bool) → not b ≡ false → (b && distinct (drop (i + 1) l)) ≡ distinct (drop (i + 1) l)
-        go true t = refl
-        go false t = absurd (true≢false t)
-
-    pub part_fails : not b ≡ true → false ≡ distinct l
-    part_fails t = sym (next ∙ ap (λ (x : Bool). x && distinct (drop (i + 1) l)) (not-true b t))
-
-  pub part_ends : (i : ℕ) → length l ≤ i → Parting i → true ≡ distinct l
-  unfolding distinct
-  part_ends i h k = sym (k.is ∙ rw (drop_of_length-le l {i = i} h))
 
 -- ---- how often a serial stands in a list
 unfoldable pub times : ℕ → List ℕ → ℕ
@@ -92,7 +25,7 @@ times_among n [] = refl
 times_among n (h ∷ l) = omega (arith, times_among n l)
 
 times_none : (n : ℕ) (l : List ℕ) → T (all (differs n) l) → times n l ≡ 0
-unfolding times all
+unfolding times
 times_none n [] t = refl
 times_none n (x ∷ l) t = let b = both (differs n x) (all (differs n) l) t in omega (arith, times_none n l b.1, go (eqb n x) b.0)
   where
@@ -101,7 +34,7 @@ times_none n (x ∷ l) t = let b = both (differs n x) (all (differs n) l) t in o
     go false t = refl
 
 none_times : (n : ℕ) (l : List ℕ) → times n l ≡ 0 → T (all (differs n) l)
-unfolding times all
+unfolding times
 none_times n [] e = tt
 none_times n (x ∷ l) e = join (differs n x) (all (differs n) l) (go (eqb n x) (omega arith)) (none_times n l (omega arith))
   where
@@ -110,7 +43,7 @@ none_times n (x ∷ l) e = join (differs n x) (all (differs n) l) (go (eqb n x) 
     go false z = tt
 
 times_one : (n : ℕ) (l : List ℕ) → T (distinct l) → times n l ≤ 1
-unfolding times distinct
+unfolding times
 times_one n [] t = omega arith
 times_one n (x ∷ l) t = let rest = both (all (differs x) l) (distinct l) t in go (times_none x l rest.0) (times_one n l rest.1) (eqb n x) refl
   where
@@ -119,7 +52,7 @@ times_one n (x ∷ l) t = let rest = both (all (differs x) l) (distinct l) t in 
     go none few false e = omega arith
 
 times_above : (n most : ℕ) (l : List ℕ) → most < n → T (all (up_to most) l) → times n l ≡ 0
-unfolding times all
+unfolding times
 times_above n most [] h t = refl
 times_above n most (x ∷ l) h t =
     let b = both (up_to most x) (all (up_to most) l) t in
@@ -143,7 +76,7 @@ ind_none true e = absurd (omega arith)
 ind_none false e = refl
 
 pub of_once : (most : ℕ) (l : List ℕ) → ((n : ℕ) → times n l + ind (ltb most n) ≤ 1) → T (all (up_to most) l) × T (distinct l)
-unfolding times all distinct
+unfolding times
 of_once most [] f = (tt, tt)
 of_once most (x ∷ l) f =
     let here = f x in

@@ -99,5 +99,4 @@ steady_next s e r k c =
     record {
       is = w;
       steady = record { solid = c.1; unready = subst Quiet (sym (ap (λ (x : Model.Outcome). x.station) w)) (quiet_step standard (view s) k.unready e) };
-      listed = c.0.listed;
     }

@@ -10,13 +10,14 @@ use borrow.Author.Tests.{le-leb, lt-leb}
 use lib.Dec.{T, leb}
 use lib.ListN.{take}
 use lib.Ieee.Bits.{is_true}
+use Rattle.std.specs.Prelude as Held
+use Rattle.std.specs.Prelude.{Ok, Err, Some, None, is_some}
+use Rattle.pair.specs.Model.{held}
+use Rattle.refusals.specs.declared.Refusal.TheVariants.{TooWide}
+use Rattle.refusals.specs.Refusal.{of_number}
 use Rattle.ranges.specs.Settings.{standard}
 use Rattle.ranges.proofs.Standard.{standard_good, standard_held}
-use Rattle.tracker.specs.declared.Told.TheVariants.{Done, Refused}
-use Rattle.tracker.specs.Answers.{done, unless}
-use Rattle.bank_model.specs.declared.Departure.{Departure}
-use Rattle.bank.specs.View.{given}
-use Rattle.bank.specs.Parts.{widest}
+use Rattle.bank_model.specs.Departures.{widest}
 use Rattle.station_model.specs.declared.Event.{Event}
 use Rattle.station_model.specs.declared.Event.TheVariants.{Mark, Gap, Finish, Seed, Hint, Clear, Switch}
 use Rattle.station_model.specs.declared.Code.{Code}
@@ -24,6 +25,7 @@ use Rattle.station_model.specs.declared.Code.TheVariants as Codes
 use Rattle.station_model.specs.Station.{number, taken, ready, fresh, refusal, step}
 use Rattle.station_model.specs.Station as Model
 use Rattle.station_model.specs.Watch.{SameAnswer, Stepped, Ran, RanFrom}
+use Rattle.station_model.proofs.Naming.{numbered}
 use Rattle.station_model.proofs.Whole.{program_watch}
 use Rattle.station.specs.declared.Station.{Station}
 use Rattle.station.specs.declared.Outcome.{Outcome}
@@ -34,10 +36,10 @@ use Rattle.station.specs.Answers.{call_refusal, Called, station_of, Watched, Beg
 use Rattle.station.proofs.Sounding.{solid_sound}
 
 -- ---- no choice is pending beside an unready primary
-choice_of : (has ready : Bool) (i : ℕ) → (ready ≡ false → given has i ≡ none) → not (has && not ready) ≡ true
-choice_of true true i f = refl
-choice_of true false i f = let z : ◌≡◌ {A = ℕ} 0 1 = let q = f refl in cc in absurd (omega arith)
-choice_of false r i f = refl
+choice_of : (p : Held.Option ℕ) (ready : Bool) → (ready ≡ false → held p ≡ none) → not (is_some p && not ready) ≡ true
+choice_of (Some i) true f = refl
+choice_of (Some i) false f = let z = f refl in cc
+choice_of None r f = refl
 
 -- nothing is pending while the primary is unready
 abbrev pub Quiet : Model.Station → Type 0
@@ -50,7 +52,7 @@ quiet_choice s Finish k = refl
 quiet_choice s (Seed v) k = refl
 quiet_choice s (Hint r) k = refl
 quiet_choice s Clear k = refl
-quiet_choice s Switch k = choice_of s.bank.has_pending s.primary.pair.ready s.bank.pending k
+quiet_choice s Switch k = choice_of s.bank.pending s.primary.pair.ready k
 
 -- so refusal 1 never holds
 pub quiet_refusal : (s : Station) (e : Event) → T (sound standard s) → Quiet (view s) → call_refusal standard s e ≡ refusal (view s) e
@@ -59,12 +61,12 @@ quiet_refusal s e t k =
     ∙ ap (λ (b : Bool). cond b (refusal (view s) e) 1) (quiet_choice s e k)
 
 -- ---- the code of a refusal
-refused_code : (c : Code) (n : ℕ) → taken c ≡ false → number c ≡ n → c ≡ Codes.Refused n
+refused_code : (c : Code) (n : ℕ) → taken c ≡ false → number c ≡ n → c ≡ Codes.Refused (of_number n)
 refused_code Codes.Done n t e = absurd (true≢false t)
 refused_code Codes.BecameReady n t e = absurd (true≢false t)
 refused_code Codes.Switched n t e = absurd (true≢false t)
 refused_code Codes.Nothing n t e = absurd (true≢false t)
-refused_code (Codes.Refused m) n t e = ap Codes.Refused e
+refused_code (Codes.Refused r) n t e = ap Codes.Refused (sym (numbered r).is ∙ ap of_number e)
 
 pub same : {a b : Model.Answer} → a ≡ b → SameAnswer a b
 same {a} {b} e = record { code = ap (λ (x : Model.Answer). x.code) e; departures = subst (λ (x : Model.Answer). Permᴰ a.departures x.departures) e (Permᴰ.refl a.departures) }
@@ -77,9 +79,6 @@ module _ (s : Station) (e : Event) (r : Outcome) (t : T (sound standard s)) (k :
   accepted_after : refusal (view s) e ≡ 0 → After
   accepted_after z = let n = quiet_refusal s e t k ∙ z in (c.still n, c.state n)
 
-  left_none : (l : List Departure) (n : ℕ) → n ≡ 0 → take n l ≡ []
-  left_none l n z = ap (λ (j : ℕ). take j l) z
-
   refused_after : (n : ℕ) → refusal (view s) e ≡ suc n → After
   unfolding step
   refused_after n z =
@@ -88,7 +87,7 @@ module _ (s : Station) (e : Event) (r : Outcome) (t : T (sound standard s)) (k :
       let v = c.kept h in
       let code = refused_code r.answer.code (suc n) (c.says h).0 ((c.says h).1 ∙ q) in
       let a : outcome r ≡ Model.outcome standard (view s) e (suc n) =
-      λ i. record { station = view (v.0 i); answer = record { code = code i; departures = left_none r.answer.left r.answer.left_len v.1 i } } in
+      λ i. record { station = view (v.0 i); answer = record { code = code i; departures = ap (λ (j : ℕ). take j r.answer.gone.left) v.1 i } } in
       (subst (λ (x : Station). T (sound standard x)) (sym v.0) t, a ∙ sym (ap (Model.outcome standard (view s) e) z))
 
   pub after : After
@@ -124,23 +123,23 @@ watched width switching s t b = record {
 }
 
 -- ---- a start
-pub begins : (w : ℕ) (b : Bool) (s : Station) → w ≤ widest → (view s ≡ fresh w b) × Steady s → Begins standard w b Done s
+pub begins : (w : ℕ) (b : Bool) (s : Station) → w ≤ widest → (view s ≡ fresh w b) × Steady s → Begins standard w b (Ok tt) s
 begins w b s h k =
     let e : leb w widest ≡ true = le-leb w widest h in
     let t = solid_sound s k.1.solid in
     record {
-      says = sym (ap (λ (x : Bool). unless (cond x 0 3) done) e);
+      says = sym (ap (λ (x : Bool). cond x 0 3) e);
       state = k.0 ∙ sym (ap (λ (x : Bool). cond x (fresh w b) (fresh 1 false)) e);
       still = t;
       watch = subst (λ (x : Bool). Watched standard (cond x w 1) (cond x b false) s) (sym e) (watched w b s t k.0);
     }
 
-pub begins_not : (w : ℕ) (b : Bool) (s : Station) → widest < w → (view s ≡ fresh 1 false) × Steady s → Begins standard w b (Refused 3) s
+pub begins_not : (w : ℕ) (b : Bool) (s : Station) → widest < w → (view s ≡ fresh 1 false) × Steady s → Begins standard w b (Err TooWide) s
 begins_not w b s h k =
     let e : leb w widest ≡ false = lt-leb w widest h in
     let t = solid_sound s k.1.solid in
     record {
-      says = sym (ap (λ (x : Bool). unless (cond x 0 3) done) e);
+      says = sym (ap (λ (x : Bool). cond x 0 3) e);
       state = k.0 ∙ sym (ap (λ (x : Bool). cond x (fresh w b) (fresh 1 false)) e);
       still = t;
       watch = subst (λ (x : Bool). Watched standard (cond x w 1) (cond x b false) s) (sym e) (watched 1 false s t k.0);

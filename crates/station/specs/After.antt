@@ -2,7 +2,7 @@
 use Rattle.std.specs.Prelude.{◌≡◌, T}
 use Rattle.ranges.specs.Settings.{standard}
 use Rattle.tracker.specs.Sound as Tracking
-use Rattle.bank.specs.Parts.{Sturdy}
+use Rattle.bank.specs.Sturdy.{Sturdy}
 use Rattle.station_model.specs.Station as Model
 use Rattle.station.specs.declared.Station.{Station}
 use Rattle.station.specs.View.{view}

@@ -1,19 +1,13 @@
 -- What the calls of a station say, and which refusal a call meets (document 01, "Refusals in checking order"). Definitions only.
-use Rattle.std.specs.Prelude.{◌≡◌, Bool, false, cond, ◌&&◌, List, map, ℕ, T, leb, Float}
-use Rattle.std.specs.Float.{binary32}
-use Rattle.std.specs.Float.Ieee.{of_bits}
+use Rattle.std.specs.Prelude.{◌≡◌, Bool, false, cond, ◌&&◌, List, map, ℕ, T, leb, Result, Ok, Err}
+use Rattle.refusals.specs.declared.Refusal.{Refusal}
+use Rattle.refusals.specs.declared.Refusal.TheVariants.{UnsoundState}
+use Rattle.refusals.specs.Refusal.{refusal_of}
 use Rattle.ranges.specs.Settings.{Settings}
-use Rattle.tracker.specs.declared.Told.{Told}
-use Rattle.tracker.specs.Answers.{done, of_told, unless}
-use Rattle.bank_model.specs.declared.Cause.{Cause}
-use Rattle.bank_model.specs.declared.Cause.TheVariants.{Twin, Outscored, Aged, Replaced, Cleared}
 use Rattle.bank_model.specs.Model.{Hyp}
-use Rattle.bank.specs.declared.Place.{Place}
-use Rattle.bank.specs.declared.Place.TheVariants.{Held, Absent, Refused}
-use Rattle.bank.specs.Parts.{Listed, widest}
-use Rattle.bank.specs.Answers.{Shown, shown, nothing, barred, width_refusal}
+use Rattle.bank_model.specs.Departures.{widest}
+use Rattle.bank.specs.Answers.{width_refusal}
 use Rattle.station_model.specs.declared.Event.{Event}
-use Rattle.station_model.specs.declared.Counts.{Counts}
 use Rattle.station_model.specs.Station.{number, taken, refusal, step}
 use Rattle.station_model.specs.Station as Model
 use Rattle.station_model.specs.Watch.{Call, Ran, RanFrom, Watch}
@@ -25,10 +19,6 @@ use Rattle.station.specs.Sound.{sound, choice_sound}
 
 -- ---- refusals; 0 where there is none
 
--- 1 of a call that only reads; then n
-abbrev pub station_then : Settings → Station → ℕ → ℕ
-station_then k s n = cond (sound k s) n 1
-
 -- 1, 2 and 5 to 8, in this order
 abbrev pub call_refusal : Settings → Station → Event → ℕ
 call_refusal k s e = cond (sound k s && choice_sound s e) (refusal (view s) e) 1
@@ -37,10 +27,9 @@ call_refusal k s e = cond (sound k s && choice_sound s e) (refusal (view s) e) 1
 -- "A refusal is the number, with the state handed back bit for bit", and none departs; else the outcome that the definitions give, of a sound station.
 pub record Answers (k : Settings) (n : ℕ) (s : Station) (e : Event) (r : Outcome) : Type 0 where
   pub says : (n ≡ 0 → ⊥) → (taken r.answer.code ≡ false) × (number r.answer.code ≡ n)
-  pub kept : (n ≡ 0 → ⊥) → (r.station ≡ s) × (r.answer.left_len ≡ 0)
+  pub kept : (n ≡ 0 → ⊥) → (r.station ≡ s) × (r.answer.gone.left_len ≡ 0)
   pub state : n ≡ 0 → outcome r ≡ step k (view s) e
   pub still : n ≡ 0 → T (sound k r.station)
-  pub listed : Listed r.answer.left r.answer.left_len
 
 abbrev pub Called : Settings → Station → Event → Outcome → Type 0
 Called k s e r = Answers k (call_refusal k s e) s e r
@@ -61,41 +50,18 @@ pub record Watched (k : Settings) (width : ℕ) (switching : Bool) (first : Stat
   pub stays : (calls : List (Ran Station Outcome)) (now : Station) → RanFrom station_of (Called k) first calls now → T (sound k now)
 
 -- a start: a fresh station, or, refused by 3, one of width 1 that does not switch; and what it promises of every list of calls
-pub record Begins (k : Settings) (width : ℕ) (switching : Bool) (told : Told) (s : Station) : Type 0 where
-  pub says : of_told told ≡ unless (width_refusal width) done
+pub record Begins (k : Settings) (width : ℕ) (switching : Bool) (told : Result Unit Refusal) (s : Station) : Type 0 where
+  pub says : refusal_of told ≡ width_refusal width
   pub state : view s ≡ cond (leb width widest) (Model.fresh width switching) (Model.fresh 1 false)
   pub still : T (sound k s)
   pub watch : Watched k (cond (leb width widest) width 1) (cond (leb width widest) switching false) s
 
 -- ---- calls that only read
 
--- how many left by a cause
-abbrev pub count_of : Cause → Counts → ℕ
-count_of Twin c = c.twins
-count_of Outscored c = c.outscored
-count_of Aged c = c.aged
-count_of Replaced c = c.replaced
-count_of Cleared c = c.cleared
+-- refusal 1, or else a
+abbrev pub reads : {A : Type 0} → Settings → Station → A → Result A Refusal
+reads k s a = cond (sound k s) (Ok a) (Err UnsoundState)
 
 -- what a host shows of a challenger
-pub record Glimpse : Type 0 where
-  pub serial : ℕ
-  pub dit : Float
-  pub dah : Float
-  pub score : Float
-
-abbrev pub glimpse : Hyp → Glimpse
-glimpse h = record { serial = h.serial; dit = h.tracker.pair.lo; dah = h.tracker.pair.hi; score = h.score }
-
--- what stands where there is no challenger
-abbrev pub unseen : Glimpse
-unseen = record { serial = 0; dit = of_bits binary32 0; dah = of_bits binary32 0; score = of_bits binary32 0 }
-
--- the answer that tells it
-abbrev pub placed : Place → Glimpse → Rival
-placed p g = record { place = p; serial = g.serial; dit_ms = g.dit; dah_ms = g.dah; score = g.score }
-
-abbrev pub rival_of : Shown Glimpse → Rival
-rival_of (shown g) = placed Held g
-rival_of nothing = placed Absent unseen
-rival_of (barred n) = placed (Refused n) unseen
+abbrev pub glimpse : Hyp → Rival
+glimpse h = record { serial = h.serial; dit_ms = h.tracker.pair.lo; dah_ms = h.tracker.pair.hi; score = h.score }

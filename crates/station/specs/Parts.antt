@@ -3,18 +3,18 @@ use Rattle.std.specs.Prelude.{◌≡◌, false, [], ℕ, ◌+◌, ◌≤◌, ◌
 use Rattle.std.proofs.Math.Option.{none}
 use Rattle.std.specs.Float.Ieee.Positive.{positive}
 use Rattle.ranges.specs.Settings.{standard}
-use Rattle.marks.specs.Lists.{duration}
+use Rattle.ranges.specs.Limits.{duration_min, duration_max}
+use Rattle.ranges.specs.Interval.{In}
 use Rattle.tracker.specs.Sound as Tracking
-use Rattle.bank_model.specs.declared.Cause.{Cause}
-use Rattle.bank_model.specs.declared.Cause.TheVariants.{Twin, Outscored, Aged, Replaced, Cleared}
-use Rattle.bank.specs.Parts.{Listed, Sturdy, most_left, padded}
+use Rattle.bank_model.specs.Left.{those}
+use Rattle.bank.specs.Sturdy.{Sturdy}
 use Rattle.bank.specs.Parts as Banked
 use Rattle.bank.specs.Switching.{Chosen}
 use Rattle.station_model.specs.declared.Event.{Event}
 use Rattle.station_model.specs.declared.Event.TheVariants.{Mark, Gap, Finish, Seed, Hint, Clear, Switch}
 use Rattle.station_model.specs.declared.Code.{Code}
 use Rattle.station_model.specs.declared.Counts.{Counts}
-use Rattle.station_model.specs.Station.{ind, is_cause, ready, step}
+use Rattle.station_model.specs.Station.{ind, ready, step}
 use Rattle.station_model.specs.Station as Model
 use Rattle.station_model.specs.Watch.{among}
 use Rattle.station.specs.declared.Station.{Station}
@@ -28,16 +28,6 @@ pub record AtMost (n : ℕ) (c : Counts) : Type 0 where
   pub aged : c.aged ≤ n
   pub replaced : c.replaced ≤ n
   pub cleared : c.cleared ≤ n
-
--- "Each is counted by its cause": one more that left by the cause w
-abbrev pub one_more : Counts → Cause → Counts
-one_more c w = record {
-  twins = c.twins + ind (is_cause Twin w);
-  outscored = c.outscored + ind (is_cause Outscored w);
-  aged = c.aged + ind (is_cause Aged w);
-  replaced = c.replaced + ind (is_cause Replaced w);
-  cleared = c.cleared + ind (is_cause Cleared w);
-}
 
 -- the books of a sound station: a serial is held once at most, and none above started; started is at most the accepted calls; the counts balance
 pub record Booked (s : Model.Station) : Type 0 where
@@ -63,8 +53,8 @@ pub record Open (s : Station) : Type 0 where
 
 -- refusals 5 to 8 do not hold, nor "a choice pending and the primary unready" at a switch
 abbrev pub Allowed : Station → Event → Type 0
-Allowed s (Mark d live) = T (duration d)
-Allowed s (Gap d) = T (duration d)
+Allowed s (Mark d live) = In duration_min duration_max d
+Allowed s (Gap d) = In duration_min duration_max d
 Allowed s Finish = Unit {0}
 Allowed s (Seed v) = T (positive v)
 Allowed s (Hint r) = Unit {0}
@@ -72,18 +62,18 @@ Allowed s Clear = Unit {0}
 Allowed s Switch = Chosen s.bank s.primary
 
 -- a call that no one leaves at: the station after it, and the code
-abbrev pub no_one_left : Station → Code → Outcome
-no_one_left t code = record { station = t; answer = record { code = code; left = padded most_left []; left_len = 0 } }
+pub record NoOneLeft (t : Station) (c : Code) (r : Outcome) : Type 0 where
+  pub station : r.station ≡ t
+  pub code : r.answer.code ≡ c
+  pub none : those r.answer.gone ≡ []
 
 -- an outcome is as m says, of a sound primary and a sound bank
 pub record Stands (r : Outcome) (m : Model.Outcome) : Type 0 where
   pub is : outcome r ≡ m
   pub primary : T (Tracking.sound standard r.station.primary)
   pub bank : Sturdy r.station.bank
-  pub listed : Listed r.answer.left r.answer.left_len
 
 -- a call on a steady station is what the definitions say, refused or not, and never refused by 1; the station is steady again
 pub record Next (s : Station) (e : Event) (r : Outcome) : Type 0 where
   pub is : outcome r ≡ step standard (view s) e
   pub steady : Steady r.station
-  pub listed : Listed r.answer.left r.answer.left_len

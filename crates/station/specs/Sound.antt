@@ -1,11 +1,11 @@
 -- What makes a station sound (document 01, refusal 1). Definitions only.
-use Rattle.std.specs.Prelude.{Bool, true, not, ◌&&◌, List, [], ◌∷◌, map, ℕ, ◌+◌, leb, eqb, take}
+use Rattle.std.specs.Prelude.{Bool, true, not, ◌&&◌, List, [], ◌∷◌, map, ℕ, ◌+◌, leb, eqb, take, is_some}
 use Rattle.ranges.specs.Settings.{Settings}
 use Rattle.marks.specs.Lists.{all}
 use Rattle.tracker.specs.Sound as Tracking
 use Rattle.rival.specs.declared.TimingHypothesis.{TimingHypothesis}
 use Rattle.bank.specs.Sound as Banking
-use Rattle.bank.specs.Parts.{widest}
+use Rattle.bank_model.specs.Departures.{widest}
 use Rattle.station_model.specs.declared.Event.{Event}
 use Rattle.station_model.specs.declared.Event.TheVariants.{Mark, Gap, Finish, Seed, Hint, Clear, Switch}
 use Rattle.station_model.specs.declared.Counts.{Counts}
@@ -26,7 +26,7 @@ up_to most n = leb n most
 abbrev pub differs : ℕ → ℕ → Bool
 differs n m = not (eqb n m)
 
-unfoldable pub distinct : List ℕ → Bool
+abbrev pub distinct : List ℕ → Bool
 distinct [] = true
 distinct (n ∷ l) = all (differs n) l && distinct l
 
@@ -34,8 +34,11 @@ abbrev pub held_once : ℕ → List ℕ → Bool
 held_once started l = all (up_to started) l && distinct l
 
 -- "counts out of balance": started is what is held and what left
+abbrev pub given_out : ℕ → Counts → ℕ
+given_out held c = held + c.twins + c.outscored + c.aged + c.replaced + c.cleared
+
 abbrev pub balanced : ℕ → ℕ → Counts → Bool
-balanced started held c = eqb started (held + c.twins + c.outscored + c.aged + c.replaced + c.cleared)
+balanced started held c = eqb started (given_out held c)
 
 -- "a serial above started or held twice, started above the accepted calls, counts out of balance"
 abbrev pub own_sound : Station → Bool
@@ -55,4 +58,4 @@ choice_sound s Finish = true
 choice_sound s (Seed v) = true
 choice_sound s (Hint r) = true
 choice_sound s Clear = true
-choice_sound s Switch = not (s.bank.has_pending && not s.primary.pair.ready)
+choice_sound s Switch = not (is_some s.bank.pending && not s.primary.pair.ready)

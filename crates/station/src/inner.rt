@@ -2,9 +2,9 @@
 pub mod accept;
 pub mod after;
 pub mod call;
-pub mod door;
 pub mod events;
 pub mod fresh;
+pub mod open;
 pub mod pace;
-pub mod readers;
+pub mod refusing;
 pub mod sound;

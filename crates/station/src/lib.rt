@@ -1,10 +1,11 @@
 // The station of document 01, "Station": a primary tracker, the bank of its rivals, and the books of who came and left.
 #![tactic(auto)]
 
-use bank::{Place, TimingBank};
-use bank_model::{Departure, MOST_LEFT};
+use bank::TimingBank;
+use bank_model::Departures;
+use refusals::Refusal;
 use station_model::{Code, Counts};
-use tracker::{SpeedTracker, Told};
+use tracker::SpeedTracker;
 
 pub mod calls;
 pub mod inner;
@@ -23,8 +24,7 @@ pub struct Station {
 #[derive(Clone, Copy)]
 pub struct Answer {
     pub code: Code,
-    pub left: [Departure; MOST_LEFT],
-    pub left_len: usize,
+    pub gone: Departures,
 }
 
 // The station after a call, and the call's answer.
@@ -37,14 +37,13 @@ pub struct Outcome {
 // A start: whether it was made as wanted, and the station.
 #[derive(Clone, Copy)]
 pub struct Started {
-    pub told: Told,
+    pub told: Result<(), Refusal>,
     pub station: Station,
 }
 
-// What a host shows of a challenger; where there is none, the numbers are 0.
-#[derive(Clone, Copy)]
+// What a host shows of a challenger.
+#[derive(Clone, Copy, Debug, PartialEq)]
 pub struct Rival {
-    pub place: Place,
     pub serial: u64,
     pub dit_ms: f32,
     pub dah_ms: f32,

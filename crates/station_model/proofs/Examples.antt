@@ -6,7 +6,6 @@ use Rattle.numbers.specs.Values.{narrow}
 use Rattle.numbers.specs.Log.{ln_of, digits}
 use Rattle.order.specs.Order.{total_less}
 use Rattle.ranges.specs.Mean.{sum_from, squares_from}
-use Rattle.marks.specs.Lists.{all}
 use Rattle.marks.specs.Sort.{insert, insert_all, ratios, first_largest}
 use Rattle.pair.specs.Lock.{locked, constrained, learnt, started}
 use Rattle.ring.specs.Ring.{anchor}
@@ -19,7 +18,7 @@ use Rattle.station_model.specs.Watch.{station_after, calls_of, among, marks_hear
 use Rattle.station_model.specs.Examples.{AllHold, worked, Printed, Answers}
 
 pub examples : AllHold worked
-unfolding AllHold calls_of named marks_heard ahead_among age first_highest among station_after step Tracking.on_mark Tracking.on_gap seeded settled element_gaps from_marks three_to_one checked anchor all insert insert_all ratios first_largest locked constrained learnt narrow sum_from squares_from on_mark on_gap clear take_switch spawned_at any_twin candidate_at streak_at marked cause_at staying leaving pruned_at led qualified gapped greatest_unit pausing_at least_from highest_from of_cause log_of fit mark_fit gap_fit decayed near ln_of digits sqrt_of root_of floor_root root_in size round of_int to_bits of_bits add sub mul div neg lt le is_nan eq
+unfolding AllHold calls_of named marks_heard ahead_among age first_highest among station_after step Tracking.on_mark Tracking.on_gap seeded settled element_gaps from_marks three_to_one checked anchor insert insert_all ratios first_largest locked constrained learnt narrow sum_from squares_from on_mark on_gap clear take_switch spawned_at any_twin candidate_at streak_at marked cause_at staying leaving pruned_at led qualified gapped greatest_unit pausing_at least_from highest_from of_cause log_of fit mark_fit gap_fit decayed near ln_of digits sqrt_of root_of floor_root root_in size round of_int to_bits of_bits add sub mul div neg lt le is_nan eq
 examples = ((refl, refl, (refl, refl), refl), ((refl, refl, (refl, refl), refl), ((refl, refl, (refl, refl), refl), ((refl, refl, (refl, refl), refl), ((refl, refl, (refl, refl), refl), ((refl, refl, (refl, refl), refl), ((refl, refl, (refl, refl), refl), tt)))))))
 
 pub printed : Printed

@@ -12,6 +12,6 @@ pub mod Memory
 pub mod Recall
 pub mod Rule
 pub mod Whole
-pub mod Ordered
 pub mod Counted
 pub mod Examples
+pub mod Naming

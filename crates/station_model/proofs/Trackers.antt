@@ -3,7 +3,7 @@ use mathlib.Core.Path.{◌≡◌, refl, sym, ap, subst, ◌∙◌}
 use mathlib.Core.Bool.{Bool, true, false, cond, not, ◌&&◌}
 use mathlib.Core.List.{List, [], ◌∷◌, ◌++◌}
 use mathlib.Core.Option.{Option, none, some}
-use Prim.Native.Nat.{◌+◌, ◌≤◌}
+use Prim.Native.Nat.{◌≤◌}
 use native.Mathlib.Omega.{arith}
 use lib.Dec.{T, leb, ltb, eqb}
 use lib.ListN.{length, length-append}
@@ -84,18 +84,17 @@ pub record Evident (v : Evidence) : Type 0 where
   pub last : HeardOr v.last_gap
 
 pub evident_none : Evident none_yet
-unfolding AllIn all
+unfolding AllIn
 evident_none = record { marks = tt; few = omega arith; between = tt; fit = tt; last = tt }
 
 pub evident_gap : (v : Evidence) (g : Option Float) → Evident v → HeardOr g → Evident (with_last_gap v g)
 evident_gap v g e h = record { marks = e.marks; few = e.few; between = e.between; fit = e.fit; last = h }
 
 pub evident_empty : (v : Evidence) (s : Option Bool) → Evident v → Evident (record { streak = []; gaps = []; side = s; last_gap = v.last_gap })
-unfolding AllIn all
+unfolding AllIn
 evident_empty v s e = record { marks = tt; few = omega arith; between = tt; fit = tt; last = e.last }
 
 append_all : (p : Float → Bool) (l : List Float) (x : Float) → T (all p l) → T (p x) → T (all p (l ++ (x ∷ [])))
-unfolding all
 append_all p [] x t u = join (p x) true u tt
 append_all p (y ∷ ys) x t u = let b = both (p y) (all p ys) t in join (p y) (all p (ys ++ (x ∷ []))) b.0 (append_all p ys x b.1 u)
 
@@ -104,7 +103,7 @@ append_none [] = refl
 append_none (x ∷ xs) = ap (λ (r : List Float). x ∷ r) (append_none xs)
 
 no_gaps : AllIn duration_min duration_max [] × T (all (fits binary32) [])
-unfolding AllIn all
+unfolding AllIn
 no_gaps = (tt, tt)
 
 module _ (v : Evidence) (e : Evident v) (side : Bool) (d : Float) (h : Heard d) where

@@ -1,3 +1,4 @@
 pub mod Station
 pub mod Watch
 pub mod Examples
+pub mod Counting

@@ -1,5 +1,7 @@
 -- What the calls of a station do (document 01, "Station"). Definitions only.
 use Rattle.std.specs.Prelude.{◌≡◌, Bool, true, false, cond, ◌||◌, List, [], ◌∷◌, ℕ, zero, suc, ◌+◌, leb, eqb, Float}
+use Rattle.refusals.specs.Refusal as Refusals
+use Rattle.refusals.specs.Refusal.{of_number}
 use Rattle.ranges.specs.Settings.{Settings}
 use Rattle.ranges.specs.Limits.{duration_refusal}
 use Rattle.tracker.specs.Model.{Tracker}
@@ -25,7 +27,7 @@ number Done = 0
 number BecameReady = 1
 number Switched = 2
 number Nothing = 3
-number (Refused n) = n
+number (Refused r) = Refusals.number r
 
 -- no R stands before it
 abbrev pub taken : Code → Bool
@@ -33,7 +35,7 @@ taken Done = true
 taken BecameReady = true
 taken Switched = true
 taken Nothing = true
-taken (Refused n) = false
+taken (Refused r) = false
 
 -- "switched" is an accepted call with number 2, "nothing to do" one with 3: refusals 1 to 3 share their numbers with codes
 abbrev pub says : ℕ → Code → Type 0
@@ -199,7 +201,7 @@ refusal s e = cond (full s) 2 (fault e)
 
 abbrev pub outcome : Settings → Station → Event → ℕ → Outcome
 outcome k s e zero = accepted s (acted k s e)
-outcome k s e (suc n) = record { station = s; answer = record { code = Refused (suc n); departures = [] } }
+outcome k s e (suc n) = record { station = s; answer = record { code = Refused (of_number (suc n)); departures = [] } }
 
 unfoldable pub step : Settings → Station → Event → Outcome
 step k s e = outcome k s e (refusal s e)

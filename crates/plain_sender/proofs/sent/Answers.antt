@@ -1,9 +1,9 @@
 -- `plain_sender::sent` meets its contract. Assumes nothing.
 use mathlib.Core.Path.{subst}
 use mathlib.Core.Option.{Option}
-use Rattle.refusals.specs.Refusal.{refusal_of}
+use Rattle.refusals.specs.Refusal.{coded, refusal_of}
 use Rattle.sender.specs.declared.TimingClass.{TimingClass}
-use Rattle.plain_sender.specs.Plain.{Observes, coded}
+use Rattle.plain_sender.specs.Plain.{Observes}
 use Rattle.plain_sender.proofs.Sending.{observes_named}
 use Rattle.plain_sender.proofs.sent.Goals as goal
 

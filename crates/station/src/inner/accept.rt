@@ -1,124 +1,67 @@
 // An accepted call: those that left are counted by their cause, and the call is counted.
-ghost use Rattle.std.specs.Prelude.{◌≡◌, ◌≤◌, T, take};
-ghost use Rattle.ranges.specs.Settings.{standard};
+ghost use Rattle.std.specs.Prelude.{◌≡◌, ◌≤◌, length};
 ghost use Rattle.tracker.specs.Model as Tracked;
-ghost use Rattle.tracker.specs.Sound.{sound};
-ghost use Rattle.bank_model.specs.Model.{stay};
+ghost use Rattle.bank_model.specs.Departures.{most_left};
 ghost use Rattle.bank.specs.View.{told};
-ghost use Rattle.bank.specs.View as Banked;
-ghost use Rattle.bank.specs.Parts.{Left, Listed, Sturdy, most_left};
 ghost use Rattle.station_model.specs.Station.{accepted, tallied};
 ghost use Rattle.station.specs.View.{view};
-ghost use Rattle.station.specs.Parts.{AtMost, Open, Solid, Stands, no_one_left, one_more};
+ghost use Rattle.station.specs.Parts.{AtMost, NoOneLeft, Stands};
 
+use crate::inner::open::OpenStation;
 use crate::{Answer, Outcome, Station};
-use bank::inner::leave::nobody;
-use bank::{Changed, TimingBank};
-use bank_model::{Cause, Departure, MOST_LEFT};
+use bank::Changed;
+use bank_model::{Departure, Departures};
 use station_model::{Code, Counts};
-use tracker::SpeedTracker;
+use tracker::SoundTracker;
 
-// One more that left by this cause.
-pub(crate) fn count_one(c: Counts, cause: Cause) -> Counts
-    requires { AtMost 8589934592 c }
-    ensures { result ≡ one_more c cause }
-{
-    match cause {
-        Cause::Twin => Counts {
-            twins: c.twins + 1,
-            ..c
-        },
-        Cause::Outscored => Counts {
-            outscored: c.outscored + 1,
-            ..c
-        },
-        Cause::Aged => Counts {
-            aged: c.aged + 1,
-            ..c
-        },
-        Cause::Replaced => Counts {
-            replaced: c.replaced + 1,
-            ..c
-        },
-        Cause::Cleared => Counts {
-            cleared: c.cleared + 1,
-            ..c
-        },
-    }
-}
-
-// The counts after the first n of those that left.
-pub(crate) fn tally(was: Counts, left: [Departure; MOST_LEFT], n: usize) -> Counts
+// The counts after those that left.
+pub(crate) fn tally(was: Counts, left: &[Departure]) -> Counts
     requires at_most { AtMost 4294967296 was }
-    requires n_le_most_left { n ≤ most_left }
-    ensures { result ≡ tallied was (take n left) }
+    requires few { length left.now ≤ most_left }
+    ensures { result ≡ tallied was left.now }
 {
-    let mut c = was;
-    let mut i: usize = 0;
-    while i < n {
-        let d = left[i];
-        i += 1;
-        let cause = d.cause;
-        c = count_one(c, cause);
+    let mut counts = was;
+    for d in left {
+        *counts.of_mut(d.cause) += 1;
     }
-    c
-}
-
-// A bank that no one left.
-pub(crate) fn stay(b: TimingBank) -> Changed
-    requires { Sturdy b }
-    ensures { Left result (stay (Banked.view b)) }
-{
-    let left = nobody();
-    Changed {
-        bank: b,
-        left,
-        left_len: 0,
-    }
+    counts
 }
 
 // A call that no one leaves at: the station after it, and the code.
 pub(crate) fn done(t: Station, code: Code) -> Outcome
-    ensures { result ≡ no_one_left t code }
+    ensures { NoOneLeft t code result }
 {
-    let left = nobody();
-    let answer = Answer {
-        code,
-        left,
-        left_len: 0,
-    };
-    Outcome { station: t, answer }
+    Outcome {
+        station: t,
+        answer: Answer {
+            code,
+            gone: Departures::none(),
+        },
+    }
 }
 
 // A call is accepted: the primary and its serial, the bank and those that left it, and the code.
 pub(crate) fn accept(
-    s: Station,
-    primary: SpeedTracker,
+    s: OpenStation,
+    primary: SoundTracker,
     serial: u64,
     t: Changed,
     code: Code,
 ) -> Outcome
-    requires solid { Solid s × Open s }
-    requires t { T (sound standard primary) }
-    requires sturdy { Sturdy t.bank × Listed t.left t.left_len }
-    ensures { Stands result (accepted (view s) (record { primary = Tracked.view primary; serial = serial; told = told t; code = code })) }
+    ensures { Stands result (accepted (view s.station)
+        (record { primary = Tracked.view primary.tracker; serial = serial; told = told t; code = code })) }
 {
-    let bank = t.bank;
-    let left = t.left;
-    let n = t.left_len;
-    let was = s.counts;
-    let counts = tally(was, left, n);
+    let gone = t.gone;
+    let counts = tally(s.station.counts, &gone.left[..gone.left_len]);
     let station = Station {
-        primary,
+        primary: primary.tracker,
         serial,
-        bank,
+        bank: t.bank.bank,
         counts,
-        accepted: s.accepted + 1,
+        accepted: s.station.accepted + 1,
     };
-    let answer = Answer {
-        code,
-        left,
-        left_len: n,
-    };
-    Outcome { station, answer }
+    Outcome {
+        station,
+        answer: Answer { code, gone },
+    }
 }

@@ -3,8 +3,9 @@ ghost use Rattle.ranges.specs.Settings.{standard};
 ghost use Rattle.station.specs.Parts.{Next, Solid, Steady};
 ghost use Rattle.station.specs.Answers.{Called};
 
-use crate::inner::door::{call_refusal, refuse};
 use crate::inner::events::step;
+use crate::inner::open::OpenStation;
+use crate::inner::refusing::{check_call, refuse};
 use crate::{Outcome, Station};
 use station_model::Event;
 
@@ -13,11 +14,10 @@ pub fn call(s: Station, e: Event) -> Outcome
     requires { Solid s }
     ensures { Called standard s e result × Solid result.station }
 {
-    let n = call_refusal(s, e);
-    if n == 0 {
-        return step(s, e);
+    match check_call(s, e) {
+        Ok(()) => step(OpenStation { station: s }, e),
+        Err(why) => refuse(s, why),
     }
-    refuse(s, n)
 }
 
 // The same, on a station from a fresh one: it is never refused by 1.

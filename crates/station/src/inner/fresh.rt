@@ -1,6 +1,6 @@
 // A station at its start.
 ghost use Rattle.std.specs.Prelude.{◌≡◌, ◌≤◌};
-ghost use Rattle.bank.specs.Parts.{widest};
+ghost use Rattle.bank_model.specs.Departures.{widest};
 ghost use Rattle.station_model.specs.Station.{fresh};
 ghost use Rattle.station.specs.View.{view};
 ghost use Rattle.station.specs.Parts.{Steady};
@@ -15,20 +15,11 @@ pub fn fresh(width: usize, switching: bool) -> Station
     requires { width ≤ widest }
     ensures { (view result ≡ fresh width switching) × Steady result }
 {
-    let primary = of_tracker::fresh();
-    let bank = of_bank::fresh(width, switching);
-    let counts = Counts {
-        twins: 0,
-        outscored: 0,
-        aged: 0,
-        replaced: 0,
-        cleared: 0,
-    };
     Station {
-        primary,
+        primary: of_tracker::fresh().tracker,
         serial: 0,
-        bank,
-        counts,
+        bank: of_bank::fresh(width, switching).bank,
+        counts: Counts::default(),
         accepted: 0,
     }
 }

@@ -1,5 +1,7 @@
-// For a loop over many events: whether the next one can go a short way, on which little of the station is copied, and each short way.
-ghost use Rattle.std.specs.Prelude.{◌≡◌, ◌&&◌, leb};
+// For a loop over many events: whether the next one can go a short way, on which little of the station is copied, and each
+// short way. (`Steady` stays a clause of these and of `next`: a type that carried it would be what a loop holds, to be taken
+// apart and made anew round each call.)
+ghost use Rattle.std.specs.Prelude.{◌≡◌, ◌&&◌, nat_le};
 ghost use Rattle.station_model.specs.declared.Event.TheVariants.{Mark, Gap, Switch};
 ghost use Rattle.station_model.specs.Station.{refusal};
 ghost use Rattle.station.specs.View.{view};
@@ -7,67 +9,60 @@ ghost use Rattle.station.specs.Parts.{Next, Steady};
 ghost use Rattle.station.specs.Pace.{Beats, Idles, Leads, Spaces};
 
 use crate::inner::accept::{accept, done};
-use crate::inner::after::refusal_of;
+use crate::inner::open::OpenStation;
+use crate::inner::refusing::check_steady;
 use crate::{Outcome, Station};
 use bank::inner::beat::hear_beat;
 use bank::inner::space::hear_space;
 use bank::inner::streak::is_high;
 use bank_model::inner::scores::centroid_logs;
+use ranges::Duration;
 use rival::inner::each::hear_one;
 use station_model::{Code, Event};
 use tracker::inner::mark::on_mark;
 use tracker::inner::speed::dit_estimate;
 
-// The short ways; a mark and a gap with their length.
+// The short ways; a mark and a gap with their length. (A loop matches on what stands here, and is not handed a function:
+// each way gives another part of the loop's station anew.)
 #[derive(Clone, Copy)]
 pub enum Way {
     // A switch with nothing pending.
     Idle,
     // A live mark that a bank hears, and that makes no candidate.
-    Beat(f32),
+    Beat(Duration),
     // A gap that a bank hears, and that is no pause.
-    Space(f32),
+    Space(Duration),
     // None of these.
     Other,
 }
 
 // Whether the bank hears what comes.
 pub(crate) fn is_heard(s: Station) -> bool
-    ensures { result ≡ (s.primary.pair.ready && leb 2 s.bank.width) }
+    ensures { result ≡ (s.primary.pair.ready && nat_le 2 s.bank.width) }
 {
-    if s.primary.pair.ready {
-        return 2 <= s.bank.width;
-    }
-    false
+    s.primary.pair.ready && 2 <= s.bank.width
 }
 
 // The way of a mark. A streak of fewer than three marks makes no candidate with the next.
-pub(crate) fn mark_way(s: Station, d: f32, live: bool) -> Way
-    requires { refusal (view s) (Mark d live) ≡ 0 }
-    ensures { Leads s (Mark d live) result }
+pub(crate) fn mark_way(s: Station, d: Duration, live: bool) -> Way
+    requires { refusal (view s) (Mark d.ms live) ≡ 0 }
+    ensures { Leads s (Mark d.ms live) result }
 {
-    if live {
-        if is_heard(s) {
-            if s.bank.streak_len < 3 {
-                return Way::Beat(d);
-            }
-        }
+    if live && is_heard(s) && s.bank.streak_len < 3 {
+        return Way::Beat(d);
     }
     Way::Other
 }
 
 // The way of a gap.
-pub(crate) fn gap_way(s: Station, d: f32) -> Way
-    requires { Steady s × (refusal (view s) (Gap d) ≡ 0) }
-    ensures { Leads s (Gap d) result }
+pub(crate) fn gap_way(s: Station, d: Duration) -> Way
+    requires { refusal (view s) (Gap d.ms) ≡ 0 }
+    ensures { Leads s (Gap d.ms) result }
 {
-    if is_heard(s) {
-        if 12.0 * dit_estimate(s.primary) <= d {
-            return Way::Other;
-        }
-        return Way::Space(d);
+    if !is_heard(s) || 12.0 * dit_estimate(s.primary) <= d.ms {
+        return Way::Other;
     }
-    Way::Other
+    Way::Space(d)
 }
 
 // The way of a switch.
@@ -75,7 +70,7 @@ pub(crate) fn switch_way(s: Station) -> Way
     requires { refusal (view s) Switch ≡ 0 }
     ensures { Leads s Switch result }
 {
-    if s.bank.has_pending {
+    if s.bank.pending.is_some() {
         return Way::Other;
     }
     Way::Idle
@@ -83,21 +78,17 @@ pub(crate) fn switch_way(s: Station) -> Way
 
 // The way of an event.
 pub fn way_of(s: Station, e: Event) -> Way
-    requires { Steady s }
     ensures { Leads s e result }
 {
-    if refusal_of(s, e) == 0 {
-        return match e {
-            Event::Mark { dur_ms, live } => mark_way(s, dur_ms, live),
-            Event::Gap(d) => gap_way(s, d),
-            Event::Finish => Way::Other,
-            Event::Seed(_) => Way::Other,
-            Event::Hint(_) => Way::Other,
-            Event::Clear => Way::Other,
-            Event::Switch => switch_way(s),
-        };
+    let Ok(()) = check_steady(s, e) else {
+        return Way::Other;
+    };
+    match e {
+        Event::Mark { dur_ms, live } => mark_way(s, Duration { ms: dur_ms }, live),
+        Event::Gap(dur_ms) => gap_way(s, Duration { ms: dur_ms }),
+        Event::Switch => switch_way(s),
+        _ => Way::Other,
     }
-    Way::Other
 }
 
 // A switch with nothing pending: it is only counted.
@@ -113,32 +104,30 @@ pub fn idle(s: Station, e: Event) -> Outcome
 }
 
 // A live mark d that the bank hears, and that makes no candidate.
-pub fn beat(s: Station, e: Event, d: f32) -> Outcome
+pub fn beat(s: Station, e: Event, d: Duration) -> Outcome
     requires { Steady s × Beats s e d }
     ensures { Next s e result }
 {
-    let p = on_mark(s.primary, d);
-    let q = p.pair;
-    let k = centroid_logs(q.lo, q.hi);
-    let side = is_high(q, d);
-    let t = hear_beat(s.bank, p, side, k.a, k.b, d);
-    accept(s, p, s.serial, t, Code::Done)
+    let o = OpenStation { station: s };
+    let p = on_mark(o.primary(), d);
+    let k = centroid_logs(p.tracker.pair.lo, p.tracker.pair.hi);
+    let side = is_high(p.tracker.pair, d.ms);
+    let t = hear_beat(o.bank(), p.tracker, side, k, d);
+    accept(o, p, s.serial, t, Code::Done)
 }
 
 // A gap d that the bank hears, and that is no pause.
-pub fn space(s: Station, e: Event, d: f32) -> Outcome
+pub fn space(s: Station, e: Event, d: Duration) -> Outcome
     requires { Steady s × Spaces s e d }
     ensures { Next s e result }
 {
+    let o = OpenStation { station: s };
     let unit = dit_estimate(s.primary);
-    let bank = hear_space(s.bank, s.primary, unit, d);
-    let primary = hear_one(s.primary, unit, d);
-    let counts = s.counts;
     let station = Station {
-        primary,
+        primary: hear_one(o.primary(), unit, d).tracker,
         serial: s.serial,
-        bank,
-        counts,
+        bank: hear_space(o.bank(), s.primary, unit, d).bank,
+        counts: s.counts,
         accepted: s.accepted + 1,
     };
     done(station, Code::Done)

@@ -1,10 +1,10 @@
 // Whether a station is sound (document 01, refusal 1).
-ghost use Rattle.std.specs.Prelude.{◌≡◌, true, suc, take, length};
+ghost use Rattle.std.specs.Prelude.{◌≡◌, ◌+◌, ◌<◌, true, take, length, MatchOption};
 ghost use Rattle.ranges.specs.Settings.{standard};
 ghost use Rattle.marks.specs.Lists.{all};
-ghost use Rattle.bank.specs.Parts.{Sturdy};
+ghost use Rattle.bank.specs.Sturdy.{Sturdy};
 ghost use Rattle.station.specs.Parts.{Solid};
-ghost use Rattle.station.specs.Sound.{balanced, differs, distinct, held_once, own_sound, serials, sound, up_to};
+ghost use Rattle.station.specs.Sound.{balanced, differs, distinct, given_out, held_once, own_sound, serials, sound, up_to};
 
 use crate::Station;
 use bank::inner::sound as of_bank;
@@ -14,17 +14,13 @@ use tracker::inner::sound as of_tracker;
 // The serials that a station holds: the primary's, then the challengers'.
 pub(crate) fn serials(s: Station) -> [u64; 9]
     requires { Sturdy s.bank }
-    ensures { (take (suc s.bank.challengers_len) result ≡ serials s) × (length result ≡ 9) }
+    ensures are { take (s.bank.challengers_len + 1) result ≡ serials s }
+    ensures nine { length result ≡ 9 }
 {
     let b = s.bank;
-    let n = b.challengers_len;
-    let mut out = [0u64; 9];
-    out[0] = s.serial;
-    let mut i: usize = 0;
-    while i < n {
-        let h = b.challengers[i];
-        i += 1;
-        out[i] = h.serial;
+    let mut out = [s.serial; 9];
+    for (i, h) in b.challengers[..b.challengers_len].iter().enumerate() {
+        out[i + 1] = h.serial;
     }
     out
 }
@@ -33,41 +29,22 @@ pub(crate) fn serials(s: Station) -> [u64; 9]
 pub(crate) fn are_up_to(xs: &[u64], most: u64) -> bool
     ensures { result ≡ all (up_to most) xs.now }
 {
-    let mut i: usize = 0;
-    while i < xs.len() {
-        let x = xs[i];
-        i += 1;
-        if most < x {
-            return false;
-        }
-    }
-    true
+    xs.iter().all(|x| *x <= most)
 }
 
 // Whether n is none of them.
 pub(crate) fn all_differ(xs: &[u64], n: u64) -> bool
     ensures { result ≡ all (differs n) xs.now }
 {
-    let mut i: usize = 0;
-    while i < xs.len() {
-        let x = xs[i];
-        i += 1;
-        if n == x {
-            return false;
-        }
-    }
-    true
+    xs.iter().all(|x| n != *x)
 }
 
 // Whether no two are the same.
 pub(crate) fn are_distinct(xs: &[u64]) -> bool
     ensures { result ≡ distinct xs.now }
 {
-    let mut i: usize = 0;
-    while i < xs.len() {
-        let x = xs[i];
-        i += 1;
-        if !all_differ(&xs[i..], x) {
+    for (i, x) in xs.iter().enumerate() {
+        if !all_differ(&xs[i + 1..], *x) {
             return false;
         }
     }
@@ -78,37 +55,27 @@ pub(crate) fn are_distinct(xs: &[u64]) -> bool
 pub(crate) fn are_held_once(xs: &[u64], started: u64) -> bool
     ensures { result ≡ held_once started xs.now }
 {
-    if are_up_to(xs, started) {
-        return are_distinct(xs);
-    }
-    false
+    are_up_to(xs, started) && are_distinct(xs)
 }
 
-// Whether started is what is held and what left, each cause by itself: taken out one after the other, so that no sum is too large.
+// What is left of started without those held and those that left, each cause by itself: so that no sum is too large.
+pub(crate) fn rest(started: u64, held: usize, c: Counts) -> Option<u64>
+    ensures { MatchOption result (started < given_out held c) (λ n. started ≡ n + given_out held c) }
+{
+    started
+        .checked_sub(held as u64)?
+        .checked_sub(c.twins)?
+        .checked_sub(c.outscored)?
+        .checked_sub(c.aged)?
+        .checked_sub(c.replaced)?
+        .checked_sub(c.cleared)
+}
+
+// Whether started is what is held and what left.
 pub(crate) fn is_balanced(started: u64, held: usize, c: Counts) -> bool
     ensures { result ≡ balanced started held c }
 {
-    let mut n = started;
-    if n < held as u64 {
-        return false;
-    }
-    n -= held as u64;
-    if n < c.twins {
-        return false;
-    }
-    n -= c.twins;
-    if n < c.outscored {
-        return false;
-    }
-    n -= c.outscored;
-    if n < c.aged {
-        return false;
-    }
-    n -= c.aged;
-    if n < c.replaced {
-        return false;
-    }
-    n - c.replaced == c.cleared
+    rest(started, held, c) == Some(0)
 }
 
 // Whether the serials, the starts and the counts of a station agree.
@@ -118,26 +85,17 @@ pub(crate) fn is_own_sound(s: Station) -> bool
 {
     let b = s.bank;
     let n = b.challengers_len;
-    let c = s.counts;
     let held = serials(s);
-    if are_held_once(&held[..n + 1], b.started) {
-        if b.started <= s.accepted {
-            return is_balanced(b.started, n, c);
-        }
-    }
-    false
+    are_held_once(&held[..n + 1], b.started)
+        && b.started <= s.accepted
+        && is_balanced(b.started, n, s.counts)
 }
 
 // Whether a station is sound.
+#[tactic(auto, using(crate::proofs::Sounding::solid_of), unfolding(crate::specs::Sound::sound))]
 pub fn is_sound(s: Station) -> bool
-    ensures { (result ≡ sound standard s) × (result ≡ true → Solid s) }
+    ensures is { result ≡ sound standard s }
+    ensures solid { result ≡ true → Solid s }
 {
-    let p = s.primary;
-    if of_tracker::is_sound(p) {
-        let b = s.bank;
-        if of_bank::is_sound(b) {
-            return is_own_sound(s);
-        }
-    }
-    false
+    of_tracker::is_sound(s.primary) && of_bank::is_sound(&s.bank) && is_own_sound(s)
 }

@@ -1,14 +1,30 @@
 -- `station::inner::after::after_switch` meets its contract. Assumes nothing.
-use mathlib.Core.Path.{ap}
-use mathlib.Core.Bool.{Bool}
-use Rattle.bank.specs.View.{given}
+use mathlib.Core.Path.{ap, sym, ◌∙◌}
+use Rattle.bank_model.specs.Steps.{Taken, take_switch}
 use Rattle.station_model.specs.Station.{switch_act}
 use Rattle.station.specs.View.{view}
-use Rattle.station.proofs.Moving.{holds, idle}
+use Rattle.station.proofs.Moving.{holds}
+use Rattle.station.proofs.Pacing.{idle_taken}
 use Rattle.station.proofs.inner.after.after_switch.Goals as goal
 
-pub returns-then-s : goal.returns-then-s
-returns-then-s c = let b = c.before.before in let s = b.args.s in let k = b.take_switch-k in holds s k.result.primary _ k.result.bank _ _ k.ensures.primary k.ensures.sturdy (ap switch_act k.ensures.is)
+pub returns-then-is_some : goal.returns-then-is_some
+returns-then-is_some c =
+    let s = c.args.s.station in
+    let m = view s in
+    let k = c.take_switch-k in
+    let taken = rw (c.bank.ensures, c.primary.ensures) at k.ensures.is in (
+      holds s k.result.primary.tracker k.result.serial k.result.bank.bank _
+          (switch_act (take_switch m.bank m.primary m.serial)) k.result.primary.held k.result.bank.sturdy
+          (ap switch_act taken),
+      ap (λ (t : Taken). (switch_act t).code) taken,
+    )
 
 pub returns : goal.returns
-returns c = let s = c.before.before in let t = s.args.s in holds t t.primary _ t.bank _ _ s.requires.solid.0.primary s.requires.solid.0.bank (ap switch_act (idle (view t).bank (view t).primary t.serial (ap (λ (x : Bool). given x t.bank.pending) c.if-s.false)))
+returns c =
+    let s = c.args.s in
+    let m = view s.station in
+    let taken = idle_taken s.station (sym c.is_some.ensures ∙ c.if-is_some.false) in (
+      holds s.station s.station.primary m.serial s.station.bank _
+          (switch_act (take_switch m.bank m.primary m.serial)) s.solid.primary s.solid.bank (ap switch_act taken),
+      ap (λ (t : Taken). (switch_act t).code) taken,
+    )

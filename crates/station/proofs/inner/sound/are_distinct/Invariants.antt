@@ -1,11 +1,8 @@
 -- `station::inner::sound::are_distinct` meets its contract. Assumes nothing.
-use Prim.Native.Nat.{◌-◌}
-use lib.ListN.{length}
-use Rattle.station.proofs.Serials.{Parting}
+use Rattle.std.proofs.Common.{◌≡◌, drop}
+use Rattle.station.specs.Sound.{distinct}
 use Rattle.station.proofs.inner.sound.are_distinct.Given as goal
 
+-- those from the next on tell whether all are distinct
 abbrev pub invariant-loop-i : goal.invariant-loop-i
-invariant-loop-i l = Parting l.xs l.i
-
-abbrev pub decreases-loop-i : goal.decreases-loop-i
-decreases-loop-i l = length l.xs - l.i
+invariant-loop-i l = distinct l.xs ≡ distinct (drop l.i l.xs)
