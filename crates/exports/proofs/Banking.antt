@@ -12,14 +12,16 @@ use Rattle.bank.specs.declared.TimingBank.{TimingBank}
 use Rattle.bank.specs.declared.Changed.{Changed}
 use Rattle.bank.specs.declared.inner.switch.Taken.{Taken}
 use Rattle.bank.specs.View.{view, told}
-use Rattle.bank.specs.Parts.{Sturdy}
+use Rattle.bank.specs.Sturdy.{Sturdy}
 use Rattle.bank.specs.Switching.{view_taken}
 use Rattle.plain.specs.declared.PlainBank.{PlainBank}
 use Rattle.plain.specs.declared.PlainDeparture.{PlainDeparture}
-use Rattle.plain_tracker.specs.Plain.{carried}
+use Rattle.plain_tracker.specs.declared.PlainTracker.{PlainTracker}
+use Rattle.plain_tracker.specs.Plain.{carried, plain_tracker, tracker_of}
 use Rattle.plain_tracker.proofs.Carrying.{take_carried}
 use Rattle.plain.specs.Plain.{bank_of, plain_bank, plain_departure, no_departure}
 use Rattle.plain.proofs.Back.{bank_neat, bank_sturdy, bank_view}
+use Rattle.exports.proofs.Handing.{form_view}
 use Rattle.exports.specs.Bank.{Blank, Held, Neat, Tells, taken_to}
 
 -- what holds of that which a plain form means holds of the bank that was read from it
@@ -38,27 +40,36 @@ pub neat : (d : TimingBank) {q : PlainBank} → q ≡ plain_bank d → Neat q
 neat d e = e ∙ sym (ap (λ (z : PlainBank). plain_bank (bank_of z)) e ∙ bank_neat d)
 
 -- those that left are told in plain form too
-pub left_is : (l : List Departure) {q : List PlainDeparture} (n : ℕ) → q ≡ carried plain_departure no_departure n l → take n q ≡ map plain_departure (take n l)
+pub left_is : (l : List Departure) {q : List PlainDeparture} (n : ℕ) → q ≡ carried plain_departure no_departure n l
+    → take n q ≡ map plain_departure (take n l)
 left_is l {q} n e = ap (take n) e ∙ take_carried plain_departure no_departure l n
 
 -- and no others
-carried_twice : (n : ℕ) (l : List Departure) → carried (λ d. d) no_departure n (carried plain_departure no_departure n l) ≡ carried plain_departure no_departure n l
+carried_twice : (n : ℕ) (l : List Departure)
+    → carried (λ d. d) no_departure n
+    (carried plain_departure no_departure n l) ≡ carried plain_departure no_departure n l
 unfolding carried
 carried_twice n [] = refl
 carried_twice zero (d ∷ l) = ap (λ (r : List PlainDeparture). no_departure ∷ r) (carried_twice zero l)
 carried_twice (suc n) (d ∷ l) = ap (λ (r : List PlainDeparture). plain_departure d ∷ r) (carried_twice n l)
 
-pub left_blank : (l : List Departure) {q : List PlainDeparture} (n : ℕ) → q ≡ carried plain_departure no_departure n l → Blank q n
+pub left_blank : (l : List Departure) {q : List PlainDeparture} (n : ℕ) → q ≡ carried plain_departure no_departure n l
+    → Blank q n
 left_blank l {q} n e = e ∙ sym (ap (carried (λ d. d) no_departure n) e ∙ carried_twice n l)
 
-pub changed_is : (m : Changed) {q : PlainBank} {l : List PlainDeparture} {t : Told} → q ≡ plain_bank m.bank → l ≡ carried plain_departure no_departure m.left_len m.left → told m ≡ t → Tells t q l m.left_len
+pub changed_is : (m : Changed) {q : PlainBank} {l : List PlainDeparture} {t : Told} → q ≡ plain_bank m.bank.bank
+    → l ≡ carried plain_departure no_departure m.gone.left_len m.gone.left → told m ≡ t → Tells t q l m.gone.left_len
 changed_is m {q} {l} e f s = record {
-  bank = view_as m.bank e ∙ ap (λ (z : Told). z.bank) s;
-  left = left_is m.left m.left_len f ∙ ap (λ (z : Told). map plain_departure z.left) s;
+  bank = view_as m.bank.bank e ∙ ap (λ (z : Told). z.bank) s;
+  left = left_is m.gone.left m.gone.left_len f ∙ ap (λ (z : Told). map plain_departure z.left) s;
 }
 
-abbrev a_taken : Model.Bank → Taken → Steps.Taken
-a_taken b t = record { bank = b; primary = Tracked.view t.primary; serial = t.serial; switched = t.switched }
+abbrev a_taken : Model.Bank → Tracked.Tracker → Taken → Steps.Taken
+a_taken b p t = record { bank = b; primary = p; serial = t.serial; switched = t.switched }
 
-pub taken_is : (t : Taken) {q : PlainBank} → q ≡ plain_bank t.bank → taken_to (record { bank = q; primary = t.primary; serial = t.serial; switched = t.switched }) ≡ view_taken t
-taken_is t {q} e = ap (λ (b : Model.Bank). a_taken b t) (view_as t.bank e)
+pub taken_is : (t : Taken) {q : PlainBank} {p : PlainTracker} → q ≡ plain_bank t.bank.bank
+    → p ≡ plain_tracker t.primary.tracker
+    → taken_to (record { bank = q; primary = p; serial = t.serial; switched = t.switched }) ≡ view_taken t
+taken_is t {q} {p} e f =
+    ap (λ (b : Model.Bank). a_taken b (Tracked.view (tracker_of p)) t) (view_as t.bank.bank e)
+    ∙ ap (λ (m : Tracked.Tracker). a_taken (view t.bank.bank) m t) (form_view p t.primary.tracker f)

@@ -1,11 +1,17 @@
 -- How the answers of `tracker` leave by C's way. Definitions only.
-use Rattle.std.specs.Prelude.{◌≡◌, Bool, true, false, ℕ, T}
+use Rattle.std.specs.Prelude.{◌≡◌, Bool, true, false, ℕ, T, Result, Ok, Err}
 use Rattle.ranges.specs.Limits.{nought}
-use Rattle.ranges.specs.Settings.{Settings}
+use Rattle.ranges.specs.Settings.{Settings, standard}
+use Rattle.refusals.specs.declared.Refusal.{Refusal}
+use Rattle.refusals.specs.Refusal.{refusal_of}
 use Rattle.tracker.specs.declared.SpeedTracker.{SpeedTracker}
 use Rattle.tracker.specs.Model.{Tracker, view}
 use Rattle.tracker.specs.Sound.{sound}
-use Rattle.tracker.specs.Answers.{Answer, done, flag, number, absent, count, refused}
+use Rattle.tracker.specs.Answers.{Answer, done, flag, number, absent, count, refused, state_then, told}
+use Rattle.plain_tracker.specs.declared.PlainTracker.{PlainTracker}
+use Rattle.plain_tracker.specs.Plain.{form_then, is_tracker, plain_tracker, tracker_of}
+use Rattle.exports.specs.declared.of_tracker.TrackerTold.{TrackerTold}
+use Rattle.exports.specs.declared.of_tracker.TrackerFlagged.{TrackerFlagged}
 use Rattle.exports.specs.declared.of_tracker.TrackerNumber.{TrackerNumber}
 use Rattle.exports.specs.declared.of_tracker.TrackerFlag.{TrackerFlag}
 use Rattle.exports.specs.declared.of_tracker.TrackerCount.{TrackerCount}
@@ -50,8 +56,37 @@ counted (flag b) = record { code = 0; value = 0 }
 counted (number x) = record { code = 0; value = 0 }
 counted absent = record { code = 0; value = 0 }
 
--- what a call, handed t, leaves in r where the refusal is n: t bit for bit; where there is none, what m says, and sound
-pub record Handed (k : Settings) (n : ℕ) (t : SpeedTracker) (m : Tracker) (r : SpeedTracker) : Type 0 where
+-- 1: a form that is no tracker's, or the form of an unsound tracker; then n
+abbrev pub form_state_then : PlainTracker → ℕ → ℕ
+form_state_then t n = form_then t (state_then standard (tracker_of t) n)
+
+-- the form is the one that its tracker has: no number stands in it that its tracker has not
+abbrev pub NeatTracker : PlainTracker → Type 0
+NeatTracker t = t ≡ plain_tracker (tracker_of t)
+
+-- what a call, handed t, leaves in r where the refusal is n: t bit for bit; where there is none, the form of what m
+-- says, which is sound
+pub record Handed (k : Settings) (n : ℕ) (t : PlainTracker) (m : Tracker) (r : PlainTracker) : Type 0 where
   pub kept : (n ≡ 0 → ⊥) → r ≡ t
-  pub state : n ≡ 0 → view r ≡ m
-  pub still : n ≡ 0 → T (sound k r)
+  pub form : n ≡ 0 → T (is_tracker r)
+  pub neat : n ≡ 0 → NeatTracker r
+  pub state : n ≡ 0 → view (tracker_of r) ≡ m
+  pub still : n ≡ 0 → T (sound k (tracker_of r))
+
+-- ---- the steps of the code
+
+-- u is the tracker of the form t, or, where t is no tracker's, one that is unsound
+pub record ReadAs (t : PlainTracker) (u : SpeedTracker) : Type 0 where
+  pub is : is_tracker t ≡ true → u ≡ tracker_of t
+  pub is_not : is_tracker t ≡ false → sound standard u ≡ false
+
+-- the form after a call that left u and gave r: as it was where the call is refused
+abbrev pub left_by : {A : Type 0} → PlainTracker → Result A Refusal → SpeedTracker → PlainTracker
+left_by t (Ok a) u = plain_tracker u
+left_by t (Err r) u = t
+
+abbrev pub told_by : PlainTracker → Result (Unit {0}) Refusal → SpeedTracker → TrackerTold
+told_by t r u = record { code = refusal_of r; tracker = left_by t r u }
+
+abbrev pub said_by : PlainTracker → Result Bool Refusal → SpeedTracker → TrackerFlagged
+said_by t r u = record { code = refusal_of r; yes = yes (told flag r); tracker = left_by t r u }

@@ -1,22 +1,28 @@
 // What the layers call on a state that is known to be sound, for measuring: each function asks what it needs.
 ghost use Rattle.std.specs.Prelude.{◌≡◌, T};
 ghost use Rattle.ranges.specs.Settings.{standard};
-ghost use Rattle.tracker.specs.Model.{view};
 ghost use Rattle.marks.specs.Lists.{duration};
+ghost use Rattle.tracker.specs.Model.{view};
 ghost use Rattle.tracker.specs.Sound.{sound};
 ghost use Rattle.tracker.specs.Steps.{on_mark};
+ghost use Rattle.plain_tracker.specs.Plain.{tracker_of};
 ghost use Rattle.bank_model.specs.Steps as Bank;
 ghost use Rattle.bank.specs.View as Banked;
-ghost use Rattle.bank.specs.Parts.{Countable, Sturdy};
+ghost use Rattle.bank.specs.Parts.{Countable};
 ghost use Rattle.bank.specs.Switching.{Chosen};
 ghost use Rattle.plain.specs.Plain.{bank_of, plain_bank};
 ghost use Rattle.exports.specs.Bank.{ChangedTo, Held, Neat, taken_to};
+ghost use Rattle.exports.specs.Tracker.{NeatTracker};
 
+use bank::{OpenBank, SoundBank};
 use bank_model::MOST_LEFT;
-use plain::from::bank_of;
-use plain::to::{plain_bank, plain_departures};
+use plain::from::bank_from;
+use plain::to::plain_departures;
 use plain::{PlainBank, PlainDeparture};
-use tracker::SpeedTracker;
+use plain_tracker::PlainTracker;
+use plain_tracker::from::tracker_of;
+use ranges::Duration;
+use tracker::SoundTracker;
 
 // A bank after a call, and those that left it in the call.
 #[repr(C)]
@@ -32,22 +38,27 @@ pub struct BankChanged {
 #[derive(Clone, Copy)]
 pub struct BankTaken {
     pub bank: PlainBank,
-    pub primary: SpeedTracker,
+    pub primary: PlainTracker,
     pub serial: u64,
     pub switched: bool,
 }
 
 // One mark, with no test of the tracker or the mark.
-pub fn hullathan_inner_tracker_on_mark(t: SpeedTracker, dur_ms: f32) -> SpeedTracker
-    requires t { T (sound standard t) }
+pub fn hullathan_inner_tracker_on_mark(t: PlainTracker, dur_ms: f32) -> PlainTracker
+    requires t { T (sound standard (tracker_of t)) }
     requires t_2 { T (duration dur_ms) }
-    ensures { (view result ≡ on_mark standard (view t) dur_ms) × T (sound standard result) }
+    ensures { (view (tracker_of result) ≡ on_mark standard (view (tracker_of t)) dur_ms)
+        × (T (sound standard (tracker_of result)) × NeatTracker result) }
 {
-    tracker::inner::mark::on_mark(t, dur_ms)
+    let s = SoundTracker {
+        tracker: tracker_of(t),
+    };
+    let d = Duration { ms: dur_ms };
+    PlainTracker::from(tracker::inner::mark::on_mark(s, d).tracker)
 }
 
 // Hands back what it was handed: what the passing of a tracker costs.
-pub fn hullathan_inner_tracker_same(t: SpeedTracker, _dur_ms: f32) -> SpeedTracker
+pub fn hullathan_inner_tracker_same(t: PlainTracker, _dur_ms: f32) -> PlainTracker
     ensures { result ≡ t }
 {
     t
@@ -56,57 +67,66 @@ pub fn hullathan_inner_tracker_same(t: SpeedTracker, _dur_ms: f32) -> SpeedTrack
 // One mark to a bank, with no test of the bank, the primary or the mark.
 pub fn hullathan_inner_bank_on_mark(
     b: PlainBank,
-    p: SpeedTracker,
+    p: PlainTracker,
     dur_ms: f32,
     live: bool,
 ) -> BankChanged
     requires held { Held b × Countable (bank_of b) }
-    requires t { T (sound standard p) }
+    requires t { T (sound standard (tracker_of p)) }
     requires t_2 { T (duration dur_ms) }
-    ensures { ChangedTo (Bank.on_mark standard (Banked.view (bank_of b)) (view p) dur_ms live) result × (Held result.bank × Neat result.bank) }
+    ensures { ChangedTo (Bank.on_mark standard (Banked.view (bank_of b)) (view (tracker_of p)) dur_ms live) result
+        × (Held result.bank × Neat result.bank) }
 {
-    let u = bank_of(b);
-    let c = u.bank;
-    let m = bank::inner::mark::on_mark(c, p, dur_ms, live);
-    let d = m.bank;
-    let l = m.left;
-    let bank = plain_bank(d);
-    let left_len = m.left_len;
-    let left = plain_departures(l, left_len);
+    let c = OpenBank {
+        bank: SoundBank { bank: bank_from(b) },
+    };
+    let q = SoundTracker {
+        tracker: tracker_of(p),
+    };
+    let d = Duration { ms: dur_ms };
+    let m = bank::inner::mark::on_mark(c, q, d, live);
     BankChanged {
-        bank,
-        left,
-        left_len,
+        bank: PlainBank::from(m.bank.bank),
+        left: plain_departures(&m.gone),
+        left_len: m.gone.left_len,
     }
 }
 
 // One gap to a bank, with no test of the bank, the primary or the gap.
-pub fn hullathan_inner_bank_on_gap(b: PlainBank, p: SpeedTracker, dur_ms: f32) -> PlainBank
+pub fn hullathan_inner_bank_on_gap(b: PlainBank, p: PlainTracker, dur_ms: f32) -> PlainBank
     requires held { Held b × Countable (bank_of b) }
-    requires t { T (sound standard p) }
+    requires t { T (sound standard (tracker_of p)) }
     requires t_2 { T (duration dur_ms) }
-    ensures { (Banked.view (bank_of result) ≡ Bank.on_gap standard (Banked.view (bank_of b)) (view p) dur_ms) × (Held result × Neat result) }
+    ensures { (Banked.view (bank_of result)
+        ≡ Bank.on_gap standard (Banked.view (bank_of b)) (view (tracker_of p)) dur_ms)
+        × (Held result × Neat result) }
 {
-    let u = bank_of(b);
-    let c = u.bank;
-    plain_bank(bank::inner::gap::on_gap(c, p, dur_ms))
+    let c = OpenBank {
+        bank: SoundBank { bank: bank_from(b) },
+    };
+    let q = SoundTracker {
+        tracker: tracker_of(p),
+    };
+    let d = Duration { ms: dur_ms };
+    PlainBank::from(bank::inner::gap::on_gap(c, q, d).bank)
 }
 
 // A switch call, with no test of the bank or the primary.
-pub fn hullathan_inner_bank_take_switch(b: PlainBank, p: SpeedTracker, serial: u64) -> BankTaken
-    requires held { Held b × Chosen (bank_of b) p }
-    requires t { T (sound standard p) }
-    ensures { (taken_to result ≡ Bank.take_switch (Banked.view (bank_of b)) (view p) serial) × (Held result.bank × Neat result.bank × T (sound standard result.primary)) }
+pub fn hullathan_inner_bank_take_switch(b: PlainBank, p: PlainTracker, serial: u64) -> BankTaken
+    requires held { Held b × Chosen (bank_of b) (tracker_of p) }
+    requires t { T (sound standard (tracker_of p)) }
+    ensures { (taken_to result ≡ Bank.take_switch (Banked.view (bank_of b)) (view (tracker_of p)) serial)
+        × (Held result.bank × Neat result.bank × T (sound standard (tracker_of result.primary))
+        × NeatTracker result.primary) }
 {
-    let u = bank_of(b);
-    let c = u.bank;
-    let t = bank::inner::switch::take_switch(c, p, serial);
-    let d = t.bank;
-    let primary = t.primary;
-    let bank = plain_bank(d);
+    let c = SoundBank { bank: bank_from(b) };
+    let q = SoundTracker {
+        tracker: tracker_of(p),
+    };
+    let t = bank::inner::switch::take_switch(c, q, serial);
     BankTaken {
-        bank,
-        primary,
+        bank: PlainBank::from(t.bank.bank),
+        primary: PlainTracker::from(t.primary.tracker),
         serial: t.serial,
         switched: t.switched,
     }
@@ -116,7 +136,5 @@ pub fn hullathan_inner_bank_take_switch(b: PlainBank, p: SpeedTracker, serial: u
 pub fn hullathan_inner_bank_same(b: PlainBank) -> PlainBank
     ensures { result ≡ plain_bank (bank_of b) }
 {
-    let u = bank_of(b);
-    let c = u.bank;
-    plain_bank(c)
+    PlainBank::from(bank_from(b))
 }

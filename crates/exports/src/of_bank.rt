@@ -1,22 +1,26 @@
-// The calls of the crate `bank`: the bank in its plain form by value, and an answer as a struct of plain numbers. A form that is no
-// bank's is refused by 1.
-ghost use Rattle.std.specs.Prelude.{◌≡◌, cond, ◌+◌, eqb, take};
+// The calls of the crate `bank`: the bank and the primary in their plain forms by value, and an answer as a struct of plain numbers.
+// A form that is no bank's or no tracker's is refused by 1.
+ghost use Rattle.std.specs.Prelude.{◌≡◌, ◌+◌, take};
 ghost use Rattle.std.proofs.Math.ListN.{get_elem?};
 ghost use Rattle.ranges.specs.Settings.{standard};
-ghost use Rattle.tracker.specs.Answers.{count, unless};
+ghost use Rattle.tracker.specs.Answers.{count, told, unless};
 ghost use Rattle.tracker.specs.Model as Tracked;
 ghost use Rattle.bank_model.specs.Steps.{clear, on_gap, on_mark, on_ready, take_switch};
 ghost use Rattle.bank.specs.View.{view};
-ghost use Rattle.bank.specs.Answers.{bank_then, clear_refusal, heard_refusal, of_challenger, of_logged, of_tally, ready_refusal, showing, switch_refusal};
-ghost use Rattle.plain.specs.Plain.{bank_of, plain_bank};
-ghost use Rattle.exports.specs.Bank.{BankAnswers, BankHears, BankStarted, BankSwitches, Refused, challenged, heard_on, logged, passed_on, plain_then, stopped_at, switched_on, tallied, unlogged};
+ghost use Rattle.bank.specs.Answers.{bank_then, clear_refusal, heard_refusal, of_shown, ready_refusal, showing, switch_refusal};
+ghost use Rattle.plain_tracker.specs.Plain.{tracker_of};
+ghost use Rattle.plain.specs.Plain.{bank_of};
+ghost use Rattle.exports.specs.Bank.{BankAnswers, BankHears, BankStarted, BankSwitches, ReadAs, challenged, forms_then, handed_on, heard_on, logged, passed_on, plain_then, primary_on, stopped_at, switched_on, tallied, unlogged};
 
-use crate::of_tracker::{flag_code, flag_yes, told_code};
-use bank::{Answered, Challenger, Heard, Logged, Place, Switched, Tally, TimingBank};
-use bank_model::{MOST_LEFT, SwitchRecord};
-use plain::from::bank_of;
-use plain::to::{blank_hypothesis, no_departure, plain_bank, plain_departures, plain_hypothesis};
+use crate::of_tracker::{code_of, read_as as read_tracker};
+use bank::{Switched, TimingBank};
+use bank_model::{Departures, MOST_LEFT, SwitchRecord};
+use plain::from::NO_RECORD;
+use plain::to::{blank_hypothesis, no_departure, plain_departures};
 use plain::{PlainBank, PlainDeparture, PlainHypothesis};
+use plain_tracker::PlainTracker;
+use refusals::Refusal;
+use rival::TimingHypothesis;
 use tracker::SpeedTracker;
 
 // The answer of a call that may send challengers away: the code is 0 or the number of the refusal.
@@ -44,7 +48,7 @@ pub struct BankSwitched {
     pub code: u8,
     pub yes: bool,
     pub bank: PlainBank,
-    pub primary: SpeedTracker,
+    pub primary: PlainTracker,
     pub serial: u64,
 }
 
@@ -74,69 +78,94 @@ pub struct BankLogged {
     pub entry: SwitchRecord,
 }
 
-// The plain form of the bank d that a call handed back; where it was refused, the form b that was handed in.
-pub(crate) fn handed(code: u8, b: PlainBank, d: TimingBank) -> PlainBank
-    ensures { result ≡ cond (eqb code 0) (plain_bank d) b }
+// The bank of a form; where the form is no bank's, one of width 0, which every call refuses by 1.
+pub(crate) fn read_as(b: PlainBank) -> TimingBank
+    ensures { ReadAs b result }
 {
-    if code == 0 {
-        return plain_bank(d);
-    }
-    b
-}
-
-// Each answer as C reads it.
-pub(crate) fn answered(b: PlainBank, a: Answered) -> BankAnswered
-    ensures { result ≡ passed_on b a.told a.changed }
-{
-    let why = a.told;
-    let c = a.changed;
-    let d = c.bank;
-    let l = c.left;
-    let code = told_code(why);
-    let bank = handed(code, b, d);
-    let left_len = c.left_len;
-    let left = plain_departures(l, left_len);
-    BankAnswered {
-        code,
-        bank,
-        left,
-        left_len,
+    match TimingBank::try_from(b) {
+        Ok(c) => c,
+        Err(_) => TimingBank {
+            width: 0,
+            ..TimingBank::new(1, false).bank
+        },
     }
 }
 
-pub(crate) fn heard(b: PlainBank, a: Heard) -> BankHeard
-    ensures { result ≡ heard_on b a.told a.bank }
+// The form that a call leaves: as it was where the call is refused.
+pub(crate) fn handed<A: Copy>(b: PlainBank, said: Result<A, Refusal>, c: TimingBank) -> PlainBank
+    ensures { result ≡ handed_on b said c }
 {
-    let why = a.told;
-    let d = a.bank;
-    let code = told_code(why);
-    let bank = handed(code, b, d);
-    BankHeard { code, bank }
+    match said {
+        Ok(_) => PlainBank::from(c),
+        Err(_) => b,
+    }
 }
 
-pub(crate) fn switched(b: PlainBank, a: Switched) -> BankSwitched
-    ensures { result ≡ switched_on b a }
+// Each answer as C reads it: of a call on the form b that left the bank c.
+pub(crate) fn answered(
+    b: PlainBank,
+    said: Result<Departures, Refusal>,
+    c: TimingBank,
+) -> BankAnswered
+    ensures { result ≡ passed_on b said c }
 {
-    let why = a.flag;
-    let d = a.bank;
-    let primary = a.primary;
-    let code = flag_code(why);
-    let bank = handed(code, b, d);
+    match said {
+        Ok(gone) => BankAnswered {
+            code: 0,
+            bank: PlainBank::from(c),
+            left: plain_departures(&gone),
+            left_len: gone.left_len,
+        },
+        Err(r) => BankAnswered {
+            code: u8::from(r),
+            bank: b,
+            left: [no_departure(); MOST_LEFT],
+            left_len: 0,
+        },
+    }
+}
+
+pub(crate) fn heard(b: PlainBank, said: Result<(), Refusal>, c: TimingBank) -> BankHeard
+    ensures { result ≡ heard_on b said c }
+{
+    BankHeard {
+        code: code_of(said),
+        bank: handed(b, said, c),
+    }
+}
+
+// The form that a switch call leaves of the primary: as it was where nothing was exchanged.
+pub(crate) fn exchanged(
+    p: PlainTracker,
+    said: Result<bool, Refusal>,
+    t: SpeedTracker,
+) -> PlainTracker
+    ensures { result ≡ primary_on p said t }
+{
+    match said {
+        Ok(true) => PlainTracker::from(t),
+        _ => p,
+    }
+}
+
+pub(crate) fn switched(b: PlainBank, p: PlainTracker, k: Switched) -> BankSwitched
+    ensures { result ≡ switched_on b p k k.flag }
+{
     BankSwitched {
-        code,
-        yes: flag_yes(why),
-        bank,
-        primary,
-        serial: a.serial,
+        code: code_of(k.flag),
+        yes: k.flag.unwrap_or(false),
+        bank: handed(b, k.flag, k.bank),
+        primary: exchanged(p, k.flag, k.primary),
+        serial: k.serial,
     }
 }
 
-pub(crate) fn tally(t: Tally) -> BankTally
-    ensures { result ≡ tallied (of_tally t) }
+pub(crate) fn tally(n: Result<u64, Refusal>) -> BankTally
+    ensures { result ≡ tallied (told count n) }
 {
-    match t {
-        Tally::Is(n) => BankTally { code: 0, value: n },
-        Tally::Refused(n) => BankTally { code: n, value: 0 },
+    BankTally {
+        code: code_of(n),
+        value: n.unwrap_or(0),
     }
 }
 
@@ -151,21 +180,17 @@ pub(crate) fn no_challenger(code: u8) -> BankChallenger
     }
 }
 
-pub(crate) fn challenger(c: Challenger) -> BankChallenger
-    ensures { result ≡ challenged (of_challenger c) }
+pub(crate) fn challenger(c: Result<Option<TimingHypothesis>, Refusal>) -> BankChallenger
+    ensures { result ≡ challenged (of_shown c) }
 {
-    let p = c.place;
-    match p {
-        Place::Held => {
-            let h = c.hypothesis;
-            BankChallenger {
-                code: 0,
-                has: true,
-                challenger: plain_hypothesis(h),
-            }
-        }
-        Place::Absent => no_challenger(0),
-        Place::Refused(n) => no_challenger(n),
+    match c {
+        Ok(Some(h)) => BankChallenger {
+            code: 0,
+            has: true,
+            challenger: PlainHypothesis::from(h),
+        },
+        Ok(None) => no_challenger(0),
+        Err(r) => no_challenger(u8::from(r)),
     }
 }
 
@@ -176,40 +201,21 @@ pub(crate) fn no_record(code: u8) -> BankLogged
     BankLogged {
         code,
         has: false,
-        entry: SwitchRecord {
-            mark_index: 0,
-            from_dit_ms: 0.0,
-            to_dit_ms: 0.0,
-            applied: false,
-        },
+        entry: NO_RECORD,
     }
 }
 
-pub(crate) fn entry(l: Logged) -> BankLogged
-    ensures { result ≡ logged (of_logged l) }
+pub(crate) fn entry(l: Result<Option<SwitchRecord>, Refusal>) -> BankLogged
+    ensures { result ≡ logged (of_shown l) }
 {
     match l {
-        Logged::Is(e) => BankLogged {
+        Ok(Some(e)) => BankLogged {
             code: 0,
             has: true,
             entry: e,
         },
-        Logged::Absent => no_record(0),
-        Logged::Refused(n) => no_record(n),
-    }
-}
-
-// A form that is no bank's, refused by 1.
-pub(crate) fn unanswered(b: PlainBank) -> BankAnswered
-    ensures { Refused b result }
-{
-    let d = no_departure();
-    let left = [d; MOST_LEFT];
-    BankAnswered {
-        code: 1,
-        bank: b,
-        left,
-        left_len: 0,
+        Ok(None) => no_record(0),
+        Err(r) => no_record(u8::from(r)),
     }
 }
 
@@ -217,145 +223,97 @@ pub(crate) fn unanswered(b: PlainBank) -> BankAnswered
 pub fn hullathan_bank_new(width: usize, switching: bool) -> BankHeard
     ensures { BankStarted width switching result }
 {
-    let a = TimingBank::new(width, switching);
-    let why = a.told;
-    let d = a.bank;
-    let code = told_code(why);
-    let bank = plain_bank(d);
-    BankHeard { code, bank }
+    let fresh = TimingBank::new(width, switching);
+    BankHeard {
+        code: code_of(fresh.told),
+        bank: PlainBank::from(fresh.bank),
+    }
 }
 
 // How many hypotheses live, the primary included.
 pub fn hullathan_bank_hypotheses(b: PlainBank) -> BankTally
     ensures { result ≡ tallied (unless (plain_then b (bank_then standard (bank_of b) 0)) (count (1 + b.challengers_len))) }
 {
-    let u = bank_of(b);
-    if u.is {
-        let c = u.bank;
-        return tally(c.hypotheses());
-    }
-    BankTally { code: 1, value: 0 }
+    tally(read_as(b).hypotheses())
 }
 
 // How many marks were scored.
 pub fn hullathan_bank_marks_seen(b: PlainBank) -> BankTally
     ensures { result ≡ tallied (unless (plain_then b (bank_then standard (bank_of b) 0)) (count b.marks_seen)) }
 {
-    let u = bank_of(b);
-    if u.is {
-        let c = u.bank;
-        return tally(c.marks_seen());
-    }
-    BankTally { code: 1, value: 0 }
+    tally(read_as(b).marks_seen())
 }
 
 // How many gaps were scored.
 pub fn hullathan_bank_gaps_seen(b: PlainBank) -> BankTally
     ensures { result ≡ tallied (unless (plain_then b (bank_then standard (bank_of b) 0)) (count b.gaps_seen)) }
 {
-    let u = bank_of(b);
-    if u.is {
-        let c = u.bank;
-        return tally(c.gaps_seen());
-    }
-    BankTally { code: 1, value: 0 }
+    tally(read_as(b).gaps_seen())
 }
 
 // The i-th challenger, in bank order.
 pub fn hullathan_bank_challenger(b: PlainBank, i: usize) -> BankChallenger
     ensures { result ≡ challenged (showing (plain_then b (bank_then standard (bank_of b) 0)) (get_elem? (take b.challengers_len (bank_of b).challengers) i)) }
 {
-    let u = bank_of(b);
-    if u.is {
-        let c = u.bank;
-        return challenger(c.challenger(i));
-    }
-    no_challenger(1)
+    challenger(read_as(b).challenger(i))
 }
 
 // The i-th switch record, oldest first.
 pub fn hullathan_bank_switch_record(b: PlainBank, i: usize) -> BankLogged
     ensures { result ≡ logged (showing (plain_then b (bank_then standard (bank_of b) 0)) (get_elem? (take b.log_len (bank_of b).log) i)) }
 {
-    let u = bank_of(b);
-    if u.is {
-        let c = u.bank;
-        return entry(c.switch_record(i));
-    }
-    no_record(1)
+    entry(read_as(b).switch_record(i))
 }
 
 // Every challenger leaves, with all evidence and the choice.
 pub fn hullathan_bank_clear(b: PlainBank) -> BankAnswered
     ensures { BankAnswers (plain_then b (clear_refusal standard (bank_of b))) b (clear (view (bank_of b))) result }
 {
-    let u = bank_of(b);
-    if u.is {
-        let c = u.bank;
-        return answered(b, c.clear());
-    }
-    unanswered(b)
+    let mut c = read_as(b);
+    let said = c.clear();
+    answered(b, said, c)
 }
 
 // The primary just became ready from marks.
-pub fn hullathan_bank_on_ready(b: PlainBank, primary: SpeedTracker, marks: &[f32]) -> BankAnswered
-    ensures { BankAnswers (plain_then b (ready_refusal standard (bank_of b) primary marks.now)) b (on_ready standard (view (bank_of b)) (Tracked.view primary) marks.now) result }
+pub fn hullathan_bank_on_ready(b: PlainBank, primary: PlainTracker, marks: &[f32]) -> BankAnswered
+    ensures { BankAnswers (forms_then b primary (ready_refusal standard (bank_of b) (tracker_of primary) marks.now)) b (on_ready standard (view (bank_of b)) (Tracked.view (tracker_of primary)) marks.now) result }
 {
-    let u = bank_of(b);
-    if u.is {
-        let c = u.bank;
-        return answered(b, c.on_ready(primary, marks));
-    }
-    unanswered(b)
+    let mut c = read_as(b);
+    let said = c.on_ready(read_tracker(primary), marks);
+    answered(b, said, c)
 }
 
 // One gap, beside the primary.
-pub fn hullathan_bank_on_gap(b: PlainBank, primary: SpeedTracker, dur_ms: f32) -> BankHeard
-    ensures { BankHears (plain_then b (heard_refusal standard (bank_of b) primary dur_ms)) b (on_gap standard (view (bank_of b)) (Tracked.view primary) dur_ms) result }
+pub fn hullathan_bank_on_gap(b: PlainBank, primary: PlainTracker, dur_ms: f32) -> BankHeard
+    ensures { BankHears (forms_then b primary (heard_refusal standard (bank_of b) (tracker_of primary) dur_ms)) b (on_gap standard (view (bank_of b)) (Tracked.view (tracker_of primary)) dur_ms) result }
 {
-    let u = bank_of(b);
-    if u.is {
-        let c = u.bank;
-        return heard(b, c.on_gap(primary, dur_ms));
-    }
-    BankHeard { code: 1, bank: b }
+    let mut c = read_as(b);
+    let said = c.on_gap(read_tracker(primary), dur_ms);
+    heard(b, said, c)
 }
 
 // One mark, beside the primary, which has learnt it if it is live.
 pub fn hullathan_bank_on_mark(
     b: PlainBank,
-    primary: SpeedTracker,
+    primary: PlainTracker,
     dur_ms: f32,
     live: bool,
 ) -> BankAnswered
-    ensures { BankAnswers (plain_then b (heard_refusal standard (bank_of b) primary dur_ms)) b (on_mark standard (view (bank_of b)) (Tracked.view primary) dur_ms live) result }
+    ensures { BankAnswers (forms_then b primary (heard_refusal standard (bank_of b) (tracker_of primary) dur_ms)) b (on_mark standard (view (bank_of b)) (Tracked.view (tracker_of primary)) dur_ms live) result }
 {
-    let u = bank_of(b);
-    if u.is {
-        let c = u.bank;
-        return answered(b, c.on_mark(primary, dur_ms, live));
-    }
-    unanswered(b)
+    let mut c = read_as(b);
+    let said = c.on_mark(read_tracker(primary), dur_ms, live);
+    answered(b, said, c)
 }
 
 // A switch, where a choice is pending: the challenger and the primary, with its serial, are exchanged.
 pub fn hullathan_bank_take_switch_by_value(
     b: PlainBank,
-    primary: SpeedTracker,
+    primary: PlainTracker,
     serial: u64,
 ) -> BankSwitched
-    ensures { BankSwitches (plain_then b (switch_refusal standard (bank_of b) primary)) b primary serial (take_switch (view (bank_of b)) (Tracked.view primary) serial) result }
+    ensures { BankSwitches (forms_then b primary (switch_refusal standard (bank_of b) (tracker_of primary))) b primary serial (take_switch (view (bank_of b)) (Tracked.view (tracker_of primary)) serial) result }
 {
-    let u = bank_of(b);
-    if u.is {
-        let c = u.bank;
-        return switched(b, c.take_switch(primary, serial));
-    }
-    BankSwitched {
-        code: 1,
-        yes: false,
-        bank: b,
-        primary,
-        serial,
-    }
+    let k = read_as(b).take_switch(read_tracker(primary), serial);
+    switched(b, primary, k)
 }

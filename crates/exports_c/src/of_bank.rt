@@ -14,6 +14,7 @@ ghost use Rattle.bank.specs.Answers.{
   showing,
   switch_refusal,
 };
+ghost use Rattle.plain_tracker.specs.Plain.{tracker_of};
 ghost use Rattle.plain.specs.Plain.{bank_of};
 ghost use Rattle.exports.specs.Bank.{
   BankAnswers,
@@ -21,6 +22,7 @@ ghost use Rattle.exports.specs.Bank.{
   BankStarted,
   BankSwitches,
   challenged,
+  forms_then,
   logged,
   plain_then,
   tallied,
@@ -30,7 +32,7 @@ use exports::of_bank::{
     BankAnswered, BankChallenger, BankHeard, BankLogged, BankSwitched, BankTally,
 };
 use plain::PlainBank;
-use tracker::SpeedTracker;
+use plain_tracker::PlainTracker;
 
 // A fresh bank; refused by 3.
 #[unsafe(no_mangle)]
@@ -100,11 +102,12 @@ pub extern "C" fn hullathan_bank_clear(b: PlainBank) -> BankAnswered
 #[unsafe(no_mangle)]
 pub extern "C" fn hullathan_bank_on_ready(
     b: PlainBank,
-    primary: SpeedTracker,
+    primary: PlainTracker,
     marks: &[f32],
 ) -> BankAnswered
-    ensures { BankAnswers (plain_then b (ready_refusal standard (bank_of b) primary marks.now)) b
-        (on_ready standard (view (bank_of b)) (Tracked.view primary) marks.now) result }
+    ensures { BankAnswers
+        (forms_then b primary (ready_refusal standard (bank_of b) (tracker_of primary) marks.now)) b
+        (on_ready standard (view (bank_of b)) (Tracked.view (tracker_of primary)) marks.now) result }
 {
     exports::of_bank::hullathan_bank_on_ready(b, primary, marks)
 }
@@ -113,11 +116,12 @@ pub extern "C" fn hullathan_bank_on_ready(
 #[unsafe(no_mangle)]
 pub extern "C" fn hullathan_bank_on_gap(
     b: PlainBank,
-    primary: SpeedTracker,
+    primary: PlainTracker,
     dur_ms: f32,
 ) -> BankHeard
-    ensures { BankHears (plain_then b (heard_refusal standard (bank_of b) primary dur_ms)) b
-        (on_gap standard (view (bank_of b)) (Tracked.view primary) dur_ms) result }
+    ensures { BankHears
+        (forms_then b primary (heard_refusal standard (bank_of b) (tracker_of primary) dur_ms)) b
+        (on_gap standard (view (bank_of b)) (Tracked.view (tracker_of primary)) dur_ms) result }
 {
     exports::of_bank::hullathan_bank_on_gap(b, primary, dur_ms)
 }
@@ -126,12 +130,14 @@ pub extern "C" fn hullathan_bank_on_gap(
 #[unsafe(no_mangle)]
 pub extern "C" fn hullathan_bank_on_mark(
     b: PlainBank,
-    primary: SpeedTracker,
+    primary: PlainTracker,
     dur_ms: f32,
     live: bool,
 ) -> BankAnswered
-    ensures { BankAnswers (plain_then b (heard_refusal standard (bank_of b) primary dur_ms)) b
-        (on_mark standard (view (bank_of b)) (Tracked.view primary) dur_ms live) result }
+    ensures { BankAnswers
+        (forms_then b primary (heard_refusal standard (bank_of b) (tracker_of primary) dur_ms)) b
+        (on_mark standard (view (bank_of b)) (Tracked.view (tracker_of primary)) dur_ms live)
+        result }
 {
     exports::of_bank::hullathan_bank_on_mark(b, primary, dur_ms, live)
 }
@@ -140,11 +146,12 @@ pub extern "C" fn hullathan_bank_on_mark(
 #[unsafe(no_mangle)]
 pub extern "C" fn hullathan_bank_take_switch_by_value(
     b: PlainBank,
-    primary: SpeedTracker,
+    primary: PlainTracker,
     serial: u64,
 ) -> BankSwitched
-    ensures { BankSwitches (plain_then b (switch_refusal standard (bank_of b) primary)) b primary
-        serial (take_switch (view (bank_of b)) (Tracked.view primary) serial) result }
+    ensures { BankSwitches
+        (forms_then b primary (switch_refusal standard (bank_of b) (tracker_of primary))) b primary
+        serial (take_switch (view (bank_of b)) (Tracked.view (tracker_of primary)) serial) result }
 {
     exports::of_bank::hullathan_bank_take_switch_by_value(b, primary, serial)
 }

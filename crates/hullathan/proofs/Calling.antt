@@ -1,34 +1,29 @@
 -- What one call hands back is what its contract says. Assumes nothing.
 use mathlib.Core.Path.{◌≡◌, refl, ap, sym, ◌∙◌, subst}
 use mathlib.Core.Bool.{Bool, true, false, cond, true≢false}
-use mathlib.Core.List.{List, [], ◌∷◌}
 use mathlib.Core.Option.{Option, none, some}
-use Prim.Native.Nat.{ℕ, zero, suc, ◌≤◌}
+use Prim.Native.Nat.{◌≤◌}
 use native.Mathlib.Omega.{arith}
-use lib.ListN.{length, take}
-use Rattle.bank.specs.Parts.{most_left}
+use lib.ListN.{length}
+use Rattle.std.proofs.lemmas.List.{length-take}
+use Rattle.bank_model.specs.Departures.{most_left}
 use Rattle.station_model.specs.declared.Event.{Event}
 use Rattle.station_model.specs.Station.{number, taken}
 use Rattle.station_model.specs.Station as Model
 use Rattle.station.specs.declared.Station.{Station}
 use Rattle.station.specs.declared.Outcome.{Outcome}
 use Rattle.station.specs.View.{outcome, view}
-use Rattle.station.specs.Parts.{Next, Solid, Steady}
+use Rattle.station.specs.Parts.{Next, Steady}
 use Rattle.station.proofs.Sounding.{solid_sound}
 use Rattle.plain_station.specs.declared.PlainStation.{PlainStation}
 use Rattle.plain_station.specs.Plain.{plain_station, station_of}
 use Rattle.hullathan.specs.declared.PlainAnswer.{PlainAnswer}
 use Rattle.hullathan.specs.declared.Called.{Called}
-use Rattle.hullathan.specs.Host.{Answers, Neat, asked, barred, good, meant, row_of}
-use Rattle.hullathan.specs.Parts.{Handed, Means, Row, Told, Turns}
+use Rattle.hullathan.specs.Host.{Answers, asked, good, meant, row_of}
+use Rattle.hullathan.specs.Parts.{Handed, Row, Told, Turns}
 use Rattle.hullathan.proofs.Asking.{asked_sorts, turns_next}
 use Rattle.hullathan.proofs.Forms.{form_means}
 use Rattle.hullathan.proofs.Rows.{row_is}
-
-taken_few : {A : Type 0} (l : List A) (n : ℕ) → length (take n l) ≤ n
-taken_few l zero = omega arith
-taken_few [] (suc n) = omega arith
-taken_few (x ∷ l) (suc n) = let h = taken_few l n in omega arith
 
 abbrev code_taken : Model.Outcome → Bool
 code_taken o = taken o.answer.code
@@ -36,21 +31,18 @@ code_taken o = taken o.answer.code
 -- ---- what a turn says of those that left
 pub turn_few : (s : Station) (e : Option Event) (o : Outcome) → Turns s e o → length (asked (view s) e).answer.departures ≤ most_left
 turn_few s e o h =
-    let k = taken_few o.answer.left o.answer.left_len in
-    let w = h.few in
-    subst (λ (m : Model.Outcome). length m.answer.departures ≤ most_left) h.is (omega arith)
+    let g = o.answer.gone in
+    subst (λ (m : Model.Outcome). length m.answer.departures ≤ most_left) h.is (omega (arith, g.listed.few, length-take g.left_len g.left))
 
 -- ---- one event of a batch
 pub told_as_law : (s : Station) (e q : Option Event) (o : Outcome) (r : PlainAnswer) → q ≡ e → Turns s q o → r ≡ row_of (outcome o) → Told s e o.station r
 told_as_law s e q o r k h f = subst (λ (z : Option Event). Told s z o.station r) k (record { solid = h.solid; state = ap (λ (m : Model.Outcome). m.station) h.is; row = f ∙ ap row_of h.is; few = turn_few s q o h })
 
 -- an event of the loop that goes the short ways
-pub next_fits : (s : Station) (v : Event) (o : Outcome) → Steady s → Next s v o → (number o.answer.code ≤ 12) × (o.answer.left_len ≤ most_left)
-next_fits s v o h n = let t = turns_next s v o h n in (t.small, t.few)
-
 pub next_told : (s : Station) (v : Event) (e : Option Event) (o : Outcome) (r : PlainAnswer) → Steady s → some v ≡ e → Next s v o
-    → Row o.answer o.station.primary.pair.lo o.station.primary.pair.hi o.station.serial o.station.bank.challengers_len r → Steady o.station × Told s e o.station r
-next_told s v e o r h k n f = (n.steady, told_as_law s e (some v) o r k (turns_next s v o h n) (row_is o o.station r refl n.steady.solid f))
+    → Row o.answer o.station r → Steady o.station × Told s e o.station r
+next_told s v e o r h k n f =
+    (n.steady, told_as_law s e (some v) o r k (turns_next s v o h n) (row_is o r n.steady.solid f))
 
 -- one that no event has: the station stays
 pub none_told : (s : Station) (e : Option Event) (r : PlainAnswer) → Steady s → none ≡ e → r ≡ row_of (asked (view s) none) → Steady s × Told s e s r
@@ -73,9 +65,6 @@ handed p s e o r q h f g =
 -- what was found after a turn
 abbrev pub Finds : PlainStation → Outcome → Called → Type 0
 Finds p o r = (r.answer ≡ row_of (outcome o)) × (r.station ≡ cond (taken o.answer.code) (plain_station o.station) p)
-
-pub turn_fits : (s : Station) (e : Option Event) (o : Outcome) → Turns s e o → ((number o.answer.code ≤ 12) × (o.answer.left_len ≤ most_left)) × Solid o.station
-turn_fits s e o t = ((t.small, t.few), t.solid)
 
 pub turn_handed : (p : PlainStation) (s : Station) (e : Option Event) (o : Outcome) (r : Called) → Turns s e o → Finds p o r → Handed p s e r
 turn_handed p s e o r t f = handed p s e o r.answer r.station t f.0 f.1
@@ -103,17 +92,3 @@ module _ (p : PlainStation) (e : Option Event) (r : Called) (i : good p ≡ true
 -- read from it
 pub answers_on : (p : PlainStation) (s : Station) (e g : Option Event) (r : Called) → good p ≡ true → s ≡ station_of p → g ≡ e → Handed p s g r → Answers e p r.answer r.station
 answers_on p s e g r i f k h = answers_good p e r i (subst (λ (z : Option Event). Handed p (station_of p) z r) k (subst (λ (z : Station). Handed p z g r) f h))
-
--- ---- one that is not
-pub answers_not : (p : PlainStation) (e : Option Event) (r : PlainAnswer) → good p ≡ false → r ≡ barred → Answers e p r p
-answers_not p e r i f =
-    let never : good p ≡ true → ⊥ = λ z. true≢false (sym z ∙ i) in
-    record {
-      unsound = λ z. (f, refl);
-      told = λ z. absurd (never z);
-      few = λ z. absurd (never z);
-      kept = λ z. absurd (never z);
-      state = λ z. absurd (never z);
-      still = λ z. absurd (never z);
-      neat = λ z. absurd (never z);
-    }

@@ -1,15 +1,13 @@
 -- The form of a sound station means it. Assumes nothing.
-use mathlib.Core.Path.{◌≡◌, refl, ap, sym, ◌∙◌, subst}
-use mathlib.Core.Bool.{Bool, true, false, cond, ◌&&◌}
+use mathlib.Core.Path.{◌≡◌, ap, sym, ◌∙◌}
+use mathlib.Core.Bool.{Bool, true, ◌&&◌}
 use lib.Dec.{T}
 use lib.Ieee.Bits.{is_true}
 use Rattle.ranges.specs.Settings.{standard}
 use Rattle.station_model.specs.Station as Model
 use Rattle.station.specs.declared.Station.{Station}
 use Rattle.station.specs.View.{view}
-use Rattle.station.specs.Parts.{Solid}
 use Rattle.station.specs.Sound.{sound}
-use Rattle.station.proofs.Sounding.{solid_sound}
 use Rattle.plain_station.specs.declared.PlainStation.{PlainStation}
 use Rattle.plain_station.specs.Plain.{plain_station, station_of, is_station}
 use Rattle.plain_station.proofs.Back.{station_named, station_neat, station_sound, station_view}

@@ -7,3 +7,4 @@ pub mod Reading
 pub mod Promising
 pub mod Starting
 pub mod Sizes
+pub mod Placing

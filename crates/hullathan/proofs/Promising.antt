@@ -1,6 +1,6 @@
 -- Demand 3 of every list of calls and batches: what their contracts say is all that it takes. Assumes nothing.
 use mathlib.Core.Path.{◌≡◌, refl, ap, sym, ◌∙◌, subst}
-use mathlib.Core.Bool.{Bool, true, false, cond, not, ◌&&◌}
+use mathlib.Core.Bool.{Bool, true, false, cond}
 use mathlib.Core.List.{List, [], ◌∷◌, map}
 use mathlib.Core.Option.{Option, none, some}
 use Prim.Native.Nat.{ℕ, zero, suc, ◌+◌, ◌-◌, ◌≤◌}
@@ -9,16 +9,18 @@ use borrow.Author.Tests.{le-leb}
 use lib.Dec.{T, eqb}
 use lib.Ieee.{Float, binary32, fits}
 use lib.ListN.{length, take}
+use Rattle.refusals.specs.declared.Refusal.{Refusal}
+use Rattle.refusals.specs.Refusal.{of_number, number as refused}
+use Rattle.station_model.proofs.Naming.{numbered}
 use Rattle.ranges.specs.Settings.{standard}
 use Rattle.ranges.proofs.Standard.{standard_good, standard_held}
 use Rattle.bank_model.specs.declared.Cause.{Cause}
 use Rattle.bank_model.specs.declared.Cause.TheVariants.{Twin, Outscored, Aged, Replaced, Cleared}
 use Rattle.bank_model.specs.declared.Departure.{Departure}
-use Rattle.bank.specs.Parts.{most_left}
+use Rattle.bank_model.specs.Departures.{most_left}
 use Rattle.station_model.specs.declared.Code.{Code}
 use Rattle.station_model.specs.declared.Code.TheVariants.{Done, BecameReady, Switched, Nothing, Refused}
 use Rattle.station_model.specs.declared.Event.{Event}
-use Rattle.station_model.specs.declared.Event.TheVariants.{Mark, Gap, Finish, Seed, Hint, Clear, Switch}
 use Rattle.station_model.specs.Station.{fresh, ready, step}
 use Rattle.station_model.specs.Station as Model
 use Rattle.station_model.specs.Watch.{Call, Carries, Ran, RanFrom, Settled, Stepped, Watch}
@@ -31,23 +33,26 @@ use Rattle.plain_station.specs.declared.PlainStation.{PlainStation}
 use Rattle.hullathan.specs.declared.PlainAnswer.{PlainAnswer}
 use Rattle.hullathan.specs.declared.PlainBatch.{PlainBatch}
 use Rattle.hullathan.specs.declared.PlainEvent.{PlainEvent}
-use Rattle.hullathan.specs.Host.{Answers, Few, after, asked, choice_sound, chosen, code_number, event_of, good, meant, of_event, outcomes, over, padded, row_of, runnable}
+use Rattle.hullathan.specs.Host.{Answers, Few, after, asked, code_number, event_of, good, meant, of_event, outcomes, over, padded, row_of, runnable}
 use Rattle.hullathan.proofs.Asking.{quiet_choice}
-use Rattle.hullathan.proofs.Rows.{left_long, map_long}
+use Rattle.std.proofs.lemmas.List.{length-map, length-take-le}
 use Rattle.hullathan.proofs.Running.{outcomes_long, runnable_few}
 use Rattle.hullathan.specs.Promise.{AllFit, Batched, Did, Promised, Turn, TurnedFrom, add_call, after_one, answer_of, answers_of, batch, before, call, calls_in, calls_on, cause_of, code_of, departure_of, events_of, left}
 
 -- ---- numbers, read back
 
-refused_back : (n : ℕ) → code_of (128 + n) ≡ Refused n
-refused_back n = let e : 128 + n - 128 ≡ n = omega arith in rw (le-leb 128 (128 + n) (omega arith)) (ap Refused e)
+refused_back : (r : Refusal) → code_of (128 + refused r) ≡ Refused r
+refused_back r =
+    let n = refused r in
+    let e : 128 + n - 128 ≡ n = omega arith in
+    rw (le-leb 128 (128 + n) (omega arith)) (ap (λ (m : ℕ). Refused (of_number m)) e ∙ ap Refused (numbered r).is)
 
 code_back : (c : Code) → code_of (code_number c) ≡ c
 code_back Done = refl
 code_back BecameReady = refl
 code_back Switched = refl
 code_back Nothing = refl
-code_back (Refused n) = refused_back n
+code_back (Refused r) = refused_back r
 
 cause_back : (c : Cause) → cause_of (cause_code c) ≡ c
 cause_back Twin = refl
@@ -230,8 +235,8 @@ module _ (p : PlainStation) (b : PlainBatch) (code : ℕ) (q : PlainStation) (c 
       let e = d.events in
       let a = d.answers in
       let long : length rows ≡ b.len =
-      map_long row_of (outcomes (meant p) (map of_event (take b.len b.events))) ∙ outcomes_long (meant p) (map of_event (take b.len b.events))
-      ∙ map_long of_event (take b.len b.events) ∙ left_long b.events b.len (omega arith) in
+      length-map (outcomes (meant p) (map of_event (take b.len b.events))) row_of ∙ outcomes_long (meant p) (map of_event (take b.len b.events))
+      ∙ length-map (take b.len b.events) of_event ∙ length-take-le b.len b.events (omega arith) in
       record {
         fit = fit_taken b.len b.events d.fit;
         told = ap (λ (z : PlainBatch). take b.len z.answers) (d.runs.told i) ∙ take_over rows b.answers b.len long (omega arith);

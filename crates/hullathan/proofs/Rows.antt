@@ -1,12 +1,13 @@
 -- The rows that a host reads: those that left, padded. Assumes nothing.
 use mathlib.Core.Path.{◌≡◌, refl, ap, sym, ◌∙◌}
 use mathlib.Core.List.{List, [], ◌∷◌, map}
-use Prim.Native.Nat.{ℕ, zero, suc, ◌≤◌}
+use Prim.Native.Nat.{ℕ, zero, suc, ◌<◌}
 use native.Mathlib.Omega.{arith}
 use lib.ListN.{length, take}
-use lib.Ieee.{Float}
-use Rattle.bank_model.specs.declared.Departure.{Departure}
-use Rattle.bank.specs.Parts.{most_left}
+use Rattle.std.specs.Prelude.{slice_index_or}
+use Rattle.std.specs.Array.{AllOfLen}
+use Rattle.std.proofs.lemmas.List.{length-map, length-take-le}
+use Rattle.bank_model.specs.Departures.{most_left}
 use Rattle.plain_tracker.specs.Plain.{carried, zeros}
 use Rattle.plain.specs.declared.PlainDeparture.{PlainDeparture}
 use Rattle.plain.specs.Plain.{plain_departure, no_departure}
@@ -34,30 +35,35 @@ module _ {A B : Type 0} (f : A → B) (z : B) where
   pub array_padded : (l : List A) (n k : ℕ) → length l ≡ k → carried f z n l ≡ padded z k (map f (take n l))
   array_padded l n k h = carried_padded l n ∙ ap (λ (j : ℕ). padded z j (map f (take n l))) h
 
--- and they are as many
-pub left_long : {A : Type 0} (l : List A) (n : ℕ) → n ≤ length l → length (take n l) ≡ n
-left_long l zero h = refl
-left_long [] (suc n) h = absurd (omega arith)
-left_long (d ∷ l) (suc n) h = ap suc (left_long l n (omega arith))
+-- an array whose elements are all z
+module _ {A : Type 0} (P : A → Type 0) (z : A) (f : (x : A) → P x → x ≡ z) where
+  blank_list : (k : ℕ) (l : List A) → length l ≡ k → ((i : ℕ) (d : A) → i < k → P (slice_index_or l i d))
+      → l ≡ padded z k []
+  unfolding padded
+  blank_list zero [] e h = refl
+  blank_list zero (x ∷ l) e h = absurd (omega arith)
+  blank_list (suc k) [] e h = absurd (omega arith)
+  blank_list (suc k) (x ∷ l) e h =
+      λ i. f x (h 0 x (omega arith)) i ∷ blank_list k l (omega arith) (λ j d b. h (suc j) d (omega arith)) i
 
-pub map_long : {A B : Type 0} (f : A → B) (l : List A) → length (map f l) ≡ length l
-map_long f [] = refl
-map_long f (x ∷ l) = ap suc (map_long f l)
+  pub all_blank : (k : ℕ) (l : List A) → AllOfLen P l k → l ≡ padded z k []
+  all_blank k l h = blank_list k l h.long h.at
 
 -- an answer, number by number
-pub row_made : (a : Answer) (lo hi : Float) (serial n code : ℕ) (left : List PlainDeparture) → code ≡ code_number a.code → left ≡ carried plain_departure no_departure a.left_len a.left → length a.left ≡ most_left
-    → a.left_len ≤ most_left → Row a lo hi serial n (record {
+pub row_made : (a : Answer) (s : Station) (code : ℕ) (left : List PlainDeparture) → code ≡ code_number a.code
+    → left ≡ carried plain_departure no_departure a.gone.left_len a.gone.left → length a.gone.left ≡ most_left
+    → Row a s (record {
       code = code;
       pad_code = zeros 3;
-      dit_ms = lo;
-      dah_ms = hi;
+      dit_ms = s.primary.pair.lo;
+      dah_ms = s.primary.pair.hi;
       pad_dah_ms = zeros 4;
-      serial = serial;
-      challengers = n;
+      serial = s.serial;
+      challengers = s.bank.challengers_len;
       left = left;
-      left_len = a.left_len;
+      left_len = a.gone.left_len;
     })
-row_made a lo hi serial n code left e f h k = record {
+row_made a s code left e f h = record {
   code = e;
   pad = refl;
   dit = refl;
@@ -65,25 +71,26 @@ row_made a lo hi serial n code left e f h k = record {
   pad_dah = refl;
   serial_is = refl;
   held = refl;
-  left = f ∙ array_padded plain_departure no_departure a.left a.left_len most_left h;
-  many = sym (left_long a.left a.left_len (omega arith));
+  left = f ∙ array_padded plain_departure no_departure a.gone.left a.gone.left_len most_left h;
+  many = sym (length-take-le a.gone.left_len a.gone.left (omega (arith, a.gone.listed.few)));
 }
 
 -- and it is that of the outcome
-pub row_is : (o : Outcome) (t : Station) (r : PlainAnswer) → t ≡ o.station → Solid o.station → Row o.answer t.primary.pair.lo t.primary.pair.hi t.serial t.bank.challengers_len r → r ≡ row_of (outcome o)
-row_is o t r e s v =
-    let few = s.bank.steady.crew.few in
-    let wide = s.bank.steady.crew.long in
+pub row_is : (o : Outcome) (r : PlainAnswer) → Solid o.station → Row o.answer o.station r → r ≡ row_of (outcome o)
+row_is o r s v =
+    let few = s.bank.crew.few in
+    let wide = s.bank.crew.long in
     let held : o.station.bank.challengers_len ≡ length (map view_hyp (take o.station.bank.challengers_len o.station.bank.challengers)) =
-    sym (map_long view_hyp (take o.station.bank.challengers_len o.station.bank.challengers) ∙ left_long o.station.bank.challengers o.station.bank.challengers_len (omega arith)) in
+    sym (length-map (take o.station.bank.challengers_len o.station.bank.challengers) view_hyp
+    ∙ length-take-le o.station.bank.challengers_len o.station.bank.challengers (omega arith)) in
     λ i. record {
       code = v.code i;
       pad_code = v.pad i;
-      dit_ms = (v.dit ∙ ap (λ (z : Station). z.primary.pair.lo) e) i;
-      dah_ms = (v.dah ∙ ap (λ (z : Station). z.primary.pair.hi) e) i;
+      dit_ms = v.dit i;
+      dah_ms = v.dah i;
       pad_dah_ms = v.pad_dah i;
-      serial = (v.serial_is ∙ ap (λ (z : Station). z.serial) e) i;
-      challengers = (v.held ∙ ap (λ (z : Station). z.bank.challengers_len) e ∙ held) i;
+      serial = v.serial_is i;
+      challengers = (v.held ∙ held) i;
       left = v.left i;
       left_len = v.many i;
     }

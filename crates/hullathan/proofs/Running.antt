@@ -1,9 +1,9 @@
 -- The loop over a batch. Assumes nothing.
 use mathlib.Core.Path.{◌≡◌, refl, ap, sym, ◌∙◌, subst}
-use mathlib.Core.Bool.{Bool, true, false, cond, true≢false, ◌&&◌, ◌||◌}
+use mathlib.Core.Bool.{Bool, true, false, cond, true≢false, ◌||◌, ◌&&◌}
 use mathlib.Core.List.{List, [], ◌∷◌, ◌++◌, map}
-use mathlib.Core.Option.{Option}
-use Prim.Native.Nat.{ℕ, zero, suc, ◌+◌, ◌*◌, ◌^◌, ◌≤◌, ◌<◌}
+use mathlib.Core.Option.{Option, some}
+use Prim.Native.Nat.{ℕ, suc, ◌+◌, ◌≤◌, ◌<◌}
 use native.Mathlib.Numerals.{add-one}
 use native.Mathlib.Omega.{arith}
 use native.Mathlib.Decide.{dec_le}
@@ -12,13 +12,16 @@ use borrow.Author.Tests.{eq-eqb, ne_eqb, le-leb, lt-leb}
 use lib.Dec.{eqb, leb}
 use lib.ListN.{length, take, get_or, set}
 use lib.Seq.{take-suc}
-use Rattle.bank.specs.Parts.{most_left}
+use Rattle.std.proofs.lemmas.List.{length-map, length-take-le, map-append}
+use Rattle.refusals.specs.Refusal.{coded, refusal_of}
+use Rattle.bank_model.specs.Departures.{most_left}
 use Rattle.station_model.specs.declared.Event.{Event}
 use Rattle.station_model.specs.Station.{taken}
 use Rattle.station_model.specs.Station as Model
 use Rattle.station.specs.declared.Station.{Station}
 use Rattle.station.specs.View.{view}
-use Rattle.station.specs.Parts.{Solid}
+use Rattle.station.specs.declared.Outcome.{Outcome}
+use Rattle.station.specs.Parts.{Next, Solid, Steady}
 use Rattle.station.proofs.Sounding.{solid_sound}
 use Rattle.plain_station.specs.declared.PlainStation.{PlainStation}
 use Rattle.plain_station.specs.Plain.{plain_station, station_of}
@@ -27,10 +30,10 @@ use Rattle.hullathan.specs.declared.PlainBatch.{PlainBatch}
 use Rattle.hullathan.specs.declared.PlainEvent.{PlainEvent}
 use Rattle.hullathan.specs.declared.Ran.{Ran}
 use Rattle.hullathan.specs.Host.{Few, Neat, Runs, after, any_taken, asked, good, meant, of_event, outcomes, over, row_of, runnable, with_answers}
-use Rattle.hullathan.specs.Parts.{Along, Kept, Means, Told}
+use Rattle.hullathan.specs.Parts.{Along, Kept, Means, Row, Told}
 use Rattle.hullathan.proofs.Asking.{asked_sorts}
+use Rattle.hullathan.proofs.Calling.{next_told}
 use Rattle.hullathan.proofs.Forms.{form_means}
-use Rattle.hullathan.proofs.Rows.{left_long, map_long}
 
 -- ---- one event more
 
@@ -52,10 +55,6 @@ unfolding outcomes
 outcomes_long m [] = refl
 outcomes_long m (e ∷ l) = ap suc (outcomes_long (asked m e).station l)
 
-map_snoc : {A B : Type 0} (f : A → B) (l : List A) (x : A) → map f (l ++ (x ∷ [])) ≡ map f l ++ (f x ∷ [])
-map_snoc f [] x = refl
-map_snoc f (y ∷ l) x = ap (λ r. f y ∷ r) (map_snoc f l x)
-
 few_snoc : (l : List Model.Outcome) (o : Model.Outcome) → Few l → length o.answer.departures ≤ most_left → Few (l ++ (o ∷ []))
 unfolding Few
 few_snoc [] o f h = (h, tt)
@@ -68,12 +67,8 @@ over_snoc [] (y ∷ old) x h = refl
 over_snoc (z ∷ l) [] x h = absurd (omega arith)
 over_snoc (z ∷ l) (y ∷ old) x h = ap (λ r. z ∷ r) (over_snoc l old x (omega arith))
 
--- where a place of the answers lies
-pub place_fits : (j n : ℕ) → j < n → n ≤ 64 → j * 152 < 2 ^ 64
-place_fits j n h k = omega arith
-
 -- ---- the loop: the first i events are answered
-module _ (s : Station) (b : PlainBatch) (n : ℕ) where
+module _ (s : Station) (b : PlainBatch) where
   abbrev pub first_events : ℕ → Events
   first_events i = map of_event (take i b.events)
 
@@ -81,8 +76,8 @@ module _ (s : Station) (b : PlainBatch) (n : ℕ) where
   first_rows i = map row_of (outcomes (view s) (first_events i))
 
   pub record Running (c : Station) (out : PlainBatch) (i : ℕ) : Type 0 where
-    pub upto : i ≤ n
-    pub most : n ≤ 64
+    pub upto : i ≤ b.len
+    pub most : b.len ≤ 64
     pub events : length b.events ≡ 64
     pub answers : length b.answers ≡ 64
     pub solid : Solid c
@@ -90,21 +85,23 @@ module _ (s : Station) (b : PlainBatch) (n : ℕ) where
     pub told : out ≡ with_answers b (first_rows i)
     pub few : Few (outcomes (view s) (first_events i))
 
-  pub run_begins : Solid s → n ≤ 64 → length b.events ≡ 64 → length b.answers ≡ 64 → Running s b 0
+  pub run_begins : Solid s → b.len ≤ 64 → length b.events ≡ 64 → length b.answers ≡ 64 → Running s b 0
   unfolding after outcomes over Few
   run_begins h k e a = record { upto = omega arith; most = k; events = e; answers = a; solid = h; state = refl; told = refl; few = tt }
 
   next_events : (i : ℕ) (z : PlainEvent) → i < length b.events → first_events (i + 1) ≡ first_events i ++ (of_event (get_or b.events i z) ∷ [])
-  next_events i z h = rw add-one (ap (map of_event) (take-suc b.events i z h)) ∙ map_snoc of_event (take i b.events) (get_or b.events i z)
+  next_events i z h = rw add-one (ap (map of_event) (take-suc b.events i z h)) ∙ map-append of_event (take i b.events) (get_or b.events i z ∷ [])
 
   rows_long : (i : ℕ) → i ≤ length b.events → length (first_rows i) ≡ i
   rows_long i h =
-      map_long row_of (outcomes (view s) (first_events i)) ∙ outcomes_long (view s) (first_events i) ∙ map_long of_event (take i b.events) ∙ left_long b.events i h
+      length-map (outcomes (view s) (first_events i)) row_of ∙ outcomes_long (view s) (first_events i)
+      ∙ length-map (take i b.events) of_event ∙ length-take-le i b.events h
 
   abbrev stored : PlainBatch → ℕ → PlainAnswer → PlainBatch
   stored o i x = record { len = o.len; events = o.events; answers = set o.answers i x }
 
-  pub run_turns : (c t : Station) (out : PlainBatch) (i : ℕ) (z : PlainEvent) (x : PlainAnswer) → i < n → Running c out i → Told c (of_event (get_or b.events i z)) t x → Running t (stored out i x) (i + 1)
+  pub run_turns : (c t : Station) (out : PlainBatch) (i : ℕ) (z : PlainEvent) (x : PlainAnswer)
+      → i < b.len → Running c out i → Told c (of_event (get_or b.events i z)) t x → Running t (stored out i x) (i + 1)
   run_turns c t out i z x h v w =
       let k = v.most in
       let ev = v.events in
@@ -116,7 +113,7 @@ module _ (s : Station) (b : PlainBatch) (n : ℕ) where
       let long : length (first_rows i) ≡ i = rows_long i (omega arith) in
       let x-is : x ≡ row_of (asked m e) = w.row ∙ ap (λ (y : Model.Station). row_of (asked y e)) v.state in
       let rows : first_rows (i + 1) ≡ first_rows i ++ (x ∷ []) =
-      ap (map row_of) made ∙ map_snoc row_of (outcomes (view s) (first_events i)) (asked m e) ∙ ap (λ (y : PlainAnswer). first_rows i ++ (y ∷ [])) (sym x-is) in
+      ap (map row_of) made ∙ map-append row_of (outcomes (view s) (first_events i)) (asked m e ∷ []) ∙ ap (λ (y : PlainAnswer). first_rows i ++ (y ∷ [])) (sym x-is) in
       record {
         upto = omega arith;
         most = k;
@@ -130,16 +127,27 @@ module _ (s : Station) (b : PlainBatch) (n : ℕ) where
         few = subst Few (sym made) (few_snoc _ _ v.few (subst (λ (y : Model.Station). length (asked y e).answer.departures ≤ most_left) v.state w.few));
       }
 
-  pub run_ends : (c : Station) (out : PlainBatch) (i : ℕ) (r : Ran) → n ≤ i → Running c out i → (r.code ≡ 0) × ((r.station ≡ plain_station c) × (r.batch ≡ out)) → Along s b n r
+  pub run_ends : (c : Station) (out : PlainBatch) (i : ℕ) (r : Ran) → b.len ≤ i → Running c out i
+      → (refusal_of r.told ≡ 0) × ((r.station ≡ plain_station c) × (r.batch ≡ out)) → Along s b r
   run_ends c out i r h v e =
       let k = v.upto in
-      let j : i ≡ n = omega arith in
+      let j : i ≡ b.len = omega arith in
       record {
         done = e.0;
         told = e.1.1 ∙ v.told ∙ ap (λ (m : ℕ). with_answers b (first_rows m)) j;
         few = subst (λ (m : ℕ). Few (outcomes (view s) (first_events m))) j v.few;
         means = form_means c r.station _ e.1.0 (v.state ∙ ap (λ (m : ℕ). after (view s) (first_events m)) j) (solid_sound c v.solid);
       }
+
+-- one event more, by one of the short ways
+pub along_turns : (s : Station) (b : PlainBatch) (c : Station) (out : PlainBatch) (i : ℕ) (z : PlainEvent) (v : Event)
+    (o : Outcome) (x : PlainAnswer) → i < b.len → Steady c × Running s b c out i
+    → some v ≡ of_event (get_or b.events i z) → Next c v o → Row o.answer o.station x
+    → Steady o.station × Running s b o.station
+    (record { len = out.len; events = out.events; answers = set out.answers i x }) (i + 1)
+along_turns s b c out i z v o x h w e m r =
+    let a = next_told c v _ o x w.0 e m r in
+    (a.0, run_turns s b c o.station out i z x h w.1 a.1)
 
 -- ---- the station counts what was accepted
 
@@ -225,14 +233,14 @@ module _ (p : PlainStation) (l : Events) (x q : PlainStation) (w : Means x (afte
 -- ---- a batch on a form
 
 pub runs_good : (p : PlainStation) (b : PlainBatch) (s : Station) (r a : Ran) → b.len ≤ 64 → good p ≡ true → s ≡ station_of p
-    → Along s b b.len r → Kept p r a → Runs p b a.code a.station a.batch
+    → Along s b r → Kept p r a → Runs p b (coded (refusal_of a.told)) a.station a.batch
 runs_good p b s r a k i f h e =
-    let d = subst (λ (z : Station). Along z b b.len r) f h in
+    let d = subst (λ (z : Station). Along z b r) f h in
     let yes : runnable p b ≡ true = rw (le-leb b.len 64 k, i) in
     let w = stands p (map of_event (take b.len b.events)) r.station a.station d.means i e.station in
     record {
       unsound = λ z. absurd (true≢false (sym yes ∙ z));
-      done = λ z. e.code ∙ d.done;
+      done = λ z. ap coded (ap refusal_of e.told ∙ d.done);
       told = λ z. e.batch ∙ d.told;
       few = λ z. d.few;
       state = λ z. w.state;

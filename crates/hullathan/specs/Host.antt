@@ -1,11 +1,12 @@
 -- What a host hands in and finds: a station in plain form, events by number, answers in plain numbers (document 01, "Station"). Definitions only.
 use Rattle.std.specs.Prelude.{◌≡◌, Bool, true, false, cond, not, ◌&&◌, ◌||◌, List, [], ◌∷◌, map, ℕ, zero, suc, ◌+◌, ◌≤◌, eqb, leb, length, take, Float}
 use Rattle.std.proofs.Math.Option.{Option, none, some}
+use Rattle.refusals.specs.Refusal.{of_number}
 use Rattle.ranges.specs.Settings.{standard}
 use Rattle.ranges.specs.Limits.{nought}
 use Rattle.tracker.specs.Steps.{dit_estimate}
 use Rattle.bank_model.specs.Model.{Hyp}
-use Rattle.bank.specs.Parts.{most_left}
+use Rattle.bank_model.specs.Departures.{most_left}
 use Rattle.station_model.specs.declared.Code.{Code}
 use Rattle.station_model.specs.declared.Code.TheVariants.{Refused}
 use Rattle.station_model.specs.declared.Event.{Event}
@@ -16,7 +17,6 @@ use Rattle.station.specs.View.{view}
 use Rattle.station.specs.Sound.{sound}
 use Rattle.plain_tracker.specs.Plain.{as_number, zeros}
 use Rattle.plain_sender.specs.Plain.{has, or_nought}
-use Rattle.plain.specs.declared.PlainDeparture.{PlainDeparture}
 use Rattle.plain.specs.Plain.{plain_departure, no_departure, plain_record, blank_record}
 use Rattle.plain_station.specs.declared.PlainStation.{PlainStation}
 use Rattle.plain_station.specs.Plain.{plain_station, station_of, is_station}
@@ -59,7 +59,7 @@ of_event e = event_of e.kind e.live e.value
 -- ---- what a call makes of a sound station
 
 abbrev pub refused_by : ℕ → Model.Station → Model.Outcome
-refused_by n m = record { station = m; answer = record { code = Refused n; departures = [] } }
+refused_by n m = record { station = m; answer = record { code = Refused (of_number n); departures = [] } }
 
 -- a choice is pending
 abbrev pub chosen : Option ℕ → Bool

@@ -3,8 +3,9 @@ use Rattle.std.specs.Prelude.{◌≡◌, Bool, true, false, cond, List, [], ◌�
 use Rattle.std.proofs.Math.Option.{Option, none, some}
 use Rattle.std.specs.Float.{binary32}
 use Rattle.std.specs.Float.Ieee.{fits}
+use Rattle.refusals.specs.Refusal.{of_number}
 use Rattle.ranges.specs.Settings.{standard}
-use Rattle.bank.specs.Parts.{widest}
+use Rattle.bank_model.specs.Departures.{widest}
 use Rattle.bank_model.specs.declared.Cause.{Cause}
 use Rattle.bank_model.specs.declared.Cause.TheVariants.{Twin, Outscored, Aged, Replaced, Cleared}
 use Rattle.bank_model.specs.declared.Departure.{Departure}
@@ -25,7 +26,7 @@ use Rattle.hullathan.specs.Host.{Answers, Neat, Runs, asked, good, meant, of_eve
 
 abbrev pub code_of : ℕ → Code
 code_of n =
-    cond (leb 128 n) (Refused (n - 128))
+    cond (leb 128 n) (Refused (of_number (n - 128)))
     (cond (eqb n (number Done)) Done
     (cond (eqb n (number BecameReady)) BecameReady
     (cond (eqb n (number Switched)) Switched Nothing)))

@@ -1,6 +1,6 @@
 -- The version of the library's interface, and how long its structs are, so that a host can see that its own declarations are these. Definitions only.
 use Rattle.std.specs.Prelude.{cond, ℕ, ◌+◌, ◌*◌, eqb}
-use Rattle.bank.specs.Parts.{most_left}
+use Rattle.bank_model.specs.Departures.{most_left}
 
 -- one more with each change of a struct or of a function that hosts have
 abbrev pub version : ℕ

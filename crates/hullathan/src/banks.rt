@@ -3,7 +3,7 @@
 ghost use Rattle.plain_switch.specs.Switch.{Exchanges};
 
 use plain::PlainBank;
-use plain_switch::exchanged;
+use plain_switch::{exchanged, switch_code};
 use plain_tracker::PlainTracker;
 
 // A switch, where a choice is pending: the challenger and the lent primary, with its serial, are exchanged.
@@ -18,5 +18,5 @@ pub fn hullathan_bank_take_switch(
     *b = k.bank;
     *primary = k.primary;
     *serial = k.serial;
-    k.code
+    switch_code(k.told)
 }

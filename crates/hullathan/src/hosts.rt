@@ -10,6 +10,7 @@ use crate::read::reading;
 use crate::start::started;
 use crate::{PlainAnswer, PlainBatch, PlainReading};
 use plain_station::PlainStation;
+use refusals::coded;
 
 // A fresh station, whatever stood in its place.
 pub fn hullathan_start(s: &mut PlainStation, width: usize, switching: u8) -> u8
@@ -33,10 +34,10 @@ pub fn hullathan_call(s: &mut PlainStation, kind: u8, live: u8, value: f32) -> P
 pub fn hullathan_run(s: &mut PlainStation, b: &mut PlainBatch) -> u8
     ensures { Runs s.old b.old result s.new b.new }
 {
-    let k = ran(*s, *b);
-    *s = k.station;
-    *b = k.batch;
-    k.code
+    let r = ran(*s, *b);
+    *s = r.station;
+    *b = r.batch;
+    coded(r.told)
 }
 
 // What a display and a log need.

@@ -1,10 +1,9 @@
 // Structs whose numbers are their places, so that a host can compare its own declarations with the library's: each number holds its place in its struct,
 // counted from 1, a float the one with those bits; the last element of an array has 100 more in each number that stands in it directly.
-ghost use Rattle.std.specs.Prelude.{◌≡◌, ◌+◌, ◌≤◌};
+ghost use Rattle.std.specs.Prelude.{◌≡◌, ◌+◌, ◌-◌, ◌<◌, ◌≤◌};
 ghost use Rattle.hullathan.specs.Layout as Placed;
 
 use crate::{PlainAnswer, PlainBatch, PlainEvent, PlainReading, PlainRival};
-use bank_model::MOST_LEFT;
 use plain::{PlainBank, PlainDeparture, PlainHypothesis, PlainRecord};
 use plain_sender::SenderReading;
 use plain_station::PlainStation;
@@ -19,76 +18,67 @@ pub(crate) fn float_at(n: u32) -> f32
     f32::from_bits(n)
 }
 
+// An array of x, but for its last place, which holds z.
+pub(crate) fn ending<T: Copy, const N: usize>(x: T, z: T) -> [T; N]
+    requires { 0 < N }
+    ensures { result ≡ Placed.ending (N - 1) x z }
+{
+    let mut l = [x; N];
+    l[N - 1] = z;
+    l
+}
+
 // The bytes of a pad at a place.
-pub(crate) fn bytes_1(at: u8) -> [u8; 1]
-    requires { at ≤ 150 }
-    ensures { result ≡ Placed.bytes 1 at }
+pub(crate) fn bytes<const N: usize>(at: u8) -> [u8; N]
+    requires some { 0 < N }
+    requires low { at ≤ 150 }
+    ensures { result ≡ Placed.bytes N at }
 {
-    let mut l = [at; 1];
-    l[0] = 100 + at;
-    l
+    ending(at, 100 + at)
 }
 
-pub(crate) fn bytes_2(at: u8) -> [u8; 2]
-    requires { at ≤ 150 }
-    ensures { result ≡ Placed.bytes 2 at }
-{
-    let mut l = [at; 2];
-    l[1] = 100 + at;
-    l
+// By how much the numbers of an element are more than their places: 0, but 100 for the last element of an array.
+#[derive(Clone, Copy)]
+pub(crate) struct Shift {
+    more: u8,
+    ghost low: { more ≤ 100 },
 }
 
-pub(crate) fn bytes_3(at: u8) -> [u8; 3]
-    requires { at ≤ 150 }
-    ensures { result ≡ Placed.bytes 3 at }
-{
-    let mut l = [at; 3];
-    l[2] = 100 + at;
-    l
-}
+pub(crate) const FIRST: Shift = Shift { more: 0 };
 
-pub(crate) fn bytes_4(at: u8) -> [u8; 4]
-    requires { at ≤ 150 }
-    ensures { result ≡ Placed.bytes 4 at }
-{
-    let mut l = [at; 4];
-    l[3] = 100 + at;
-    l
-}
+pub(crate) const LAST: Shift = Shift { more: 100 };
 
-pub(crate) fn bytes_5(at: u8) -> [u8; 5]
-    requires { at ≤ 150 }
-    ensures { result ≡ Placed.bytes 5 at }
-{
-    let mut l = [at; 5];
-    l[4] = 100 + at;
-    l
-}
+impl Shift {
+    // The number at a place.
+    pub(crate) fn at(self, place: u8) -> u8
+        requires { place ≤ 50 }
+        ensures { result ≡ place + self.more }
+    {
+        place + self.more
+    }
 
-pub(crate) fn bytes_7(at: u8) -> [u8; 7]
-    requires { at ≤ 150 }
-    ensures { result ≡ Placed.bytes 7 at }
-{
-    let mut l = [at; 7];
-    l[6] = 100 + at;
-    l
-}
+    // The float at a place.
+    pub(crate) fn float(self, place: u8) -> f32
+        requires { place ≤ 50 }
+        ensures { result ≡ Placed.float (place + self.more) }
+    {
+        float_at(u32::from(self.at(place)))
+    }
 
-// Four floats at a place.
-pub(crate) fn floats_4(at: u32) -> [f32; 4]
-    requires { at ≤ 100 }
-    ensures { result ≡ Placed.ending 3 (Placed.float at) (Placed.float (100 + at)) }
-{
-    let mut l = [float_at(at); 4];
-    l[3] = float_at(100 + at);
-    l
+    // The bytes of a pad at a place.
+    pub(crate) fn pad<const N: usize>(self, place: u8) -> [u8; N]
+        requires some { 0 < N }
+        requires low { place ≤ 50 }
+        ensures { result ≡ Placed.bytes N (place + self.more) }
+    {
+        bytes(self.at(place))
+    }
 }
 
 pub(crate) fn pair_placed() -> PlainPair
     ensures { result ≡ Placed.pair }
 {
-    let mut init = [float_at(3); 12];
-    init[11] = float_at(103);
+    let init = ending(float_at(3), float_at(103));
     PlainPair {
         lo: float_at(1),
         hi: float_at(2),
@@ -97,22 +87,20 @@ pub(crate) fn pair_placed() -> PlainPair
         ready: 5,
         confirmed: 6,
         placeholder_is_lo: 7,
-        pad_placeholder_is_lo: bytes_5(8),
+        pad_placeholder_is_lo: bytes(8),
         lo_n: 9,
     }
 }
 
-pub(crate) fn entry_placed(m: u8) -> PlainEntry
-    requires { m ≤ 100 }
-    ensures { result ≡ Placed.entry m }
+pub(crate) fn entry_placed(m: Shift) -> PlainEntry
+    ensures { result ≡ Placed.entry m.more }
 {
-    let k = m as u32;
     PlainEntry {
-        dur_ms: float_at(1 + k),
-        assigned_dit: 2 + m,
-        pad_assigned_dit: bytes_3(3 + m),
-        pre_lo: float_at(4 + k),
-        pre_hi: float_at(5 + k),
+        dur_ms: m.float(1),
+        assigned_dit: m.at(2),
+        pad_assigned_dit: m.pad(3),
+        pre_lo: m.float(4),
+        pre_hi: m.float(5),
     }
 }
 
@@ -120,107 +108,87 @@ pub(crate) fn tracker_placed() -> PlainTracker
     ensures { result ≡ Placed.tracker }
 {
     let pair = pair_placed();
-    let e = entry_placed(0);
-    let z = entry_placed(100);
-    let mut ring = [e; 12];
-    ring[11] = z;
-    let mut recent = [float_at(7); 5];
-    recent[4] = float_at(107);
+    let e = entry_placed(FIRST);
+    let z = entry_placed(LAST);
+    let ring = ending(e, z);
+    let recent = ending(float_at(7), float_at(107));
     PlainTracker {
         pair,
         ring,
         ring_len: 3,
         has_wpm: 4,
-        pad_has_wpm: bytes_3(5),
+        pad_has_wpm: bytes(5),
         wpm_ema: float_at(6),
         recent,
-        pad_recent: bytes_4(8),
+        pad_recent: bytes(8),
         recent_len: 9,
         has_egap: 10,
-        pad_has_egap: bytes_3(11),
+        pad_has_egap: bytes(11),
         mu_egap_ms: float_at(12),
         has_hint: 13,
-        pad_has_hint: bytes_3(14),
+        pad_has_hint: bytes(14),
         ratio_hint: float_at(15),
         regime: 16,
         badlock_recovered: 17,
         lo_uncorroborated: 18,
-        pad_lo_uncorroborated: bytes_2(19),
+        pad_lo_uncorroborated: bytes(19),
     }
 }
 
-pub(crate) fn hypothesis_placed(m: u8) -> PlainHypothesis
-    requires { m ≤ 100 }
-    ensures { result ≡ Placed.hypothesis m }
+pub(crate) fn hypothesis_placed(m: Shift) -> PlainHypothesis
+    ensures { result ≡ Placed.hypothesis m.more }
 {
-    let k = m as u32;
     let tracker = tracker_placed();
     PlainHypothesis {
         tracker,
-        score: float_at(2 + k),
-        gap_score: float_at(3 + k),
-        lead_marks: 4 + k,
-        age_marks: 5 + k,
-        origin: 6 + m,
-        pad_origin: bytes_3(7 + m),
-        retain_marks: 8 + k,
-        reported: 9 + m,
-        pad_reported: bytes_3(10 + m),
-        ln_lo: float_at(11 + k),
-        ln_hi: float_at(12 + k),
-        pad_ln_hi: bytes_4(13 + m),
-        serial: 14 + (m as u64),
+        score: m.float(2),
+        gap_score: m.float(3),
+        lead_marks: u32::from(m.at(4)),
+        age_marks: u32::from(m.at(5)),
+        origin: m.at(6),
+        pad_origin: m.pad(7),
+        retain_marks: u32::from(m.at(8)),
+        reported: m.at(9),
+        pad_reported: m.pad(10),
+        ln_lo: m.float(11),
+        ln_hi: m.float(12),
+        pad_ln_hi: m.pad(13),
+        serial: u64::from(m.at(14)),
     }
 }
 
-pub(crate) fn crew_placed() -> [PlainHypothesis; 8]
-    ensures { result ≡ Placed.ending 7 (Placed.hypothesis 0) (Placed.hypothesis 100) }
+pub(crate) fn record_placed(m: Shift) -> PlainRecord
+    ensures { result ≡ Placed.record_at m.more }
 {
-    let a = hypothesis_placed(0);
-    let z = hypothesis_placed(100);
-    let mut l = [a; 8];
-    l[7] = z;
-    l
-}
-
-pub(crate) fn record_placed(m: u8) -> PlainRecord
-    requires { m ≤ 100 }
-    ensures { result ≡ Placed.record_at m }
-{
-    let k = m as u32;
     PlainRecord {
-        mark_index: 1 + (m as u64),
-        from_dit_ms: float_at(2 + k),
-        to_dit_ms: float_at(3 + k),
-        applied: 4 + m,
-        pad_applied: bytes_7(5 + m),
+        mark_index: u64::from(m.at(1)),
+        from_dit_ms: m.float(2),
+        to_dit_ms: m.float(3),
+        applied: m.at(4),
+        pad_applied: m.pad(5),
     }
 }
 
 pub(crate) fn log_placed() -> [PlainRecord; 16]
     ensures { result ≡ Placed.ending 15 (Placed.record_at 0) (Placed.record_at 100) }
 {
-    let a = record_placed(0);
-    let z = record_placed(100);
-    let mut l = [a; 16];
-    l[15] = z;
-    l
+    ending(record_placed(FIRST), record_placed(LAST))
 }
 
 pub(crate) fn bank_placed() -> PlainBank
     ensures { result ≡ Placed.bank }
 {
-    let challengers = crew_placed();
-    let streak = floats_4(9);
-    let streak_gaps = floats_4(11);
+    let challengers = ending(hypothesis_placed(FIRST), hypothesis_placed(LAST));
+    let streak = ending(float_at(9), float_at(109));
+    let streak_gaps = ending(float_at(11), float_at(111));
     let log = log_placed();
     PlainBank {
         width: 1,
         switching: 2,
-        pad_switching: bytes_3(3),
+        pad_switching: bytes(3),
         primary_score: float_at(4),
         primary_gap_score: float_at(5),
-        pad_primary_gap_score: bytes_4(6),
+        pad_primary_gap_score: bytes(6),
         challengers,
         challengers_len: 8,
         streak,
@@ -230,12 +198,12 @@ pub(crate) fn bank_placed() -> PlainBank
         has_side: 13,
         streak_side: 14,
         has_last_gap: 15,
-        pad_has_last_gap: bytes_1(16),
+        pad_has_last_gap: bytes(16),
         last_gap: float_at(17),
         marks_seen: 18,
         gaps_seen: 19,
         has_pending: 20,
-        pad_has_pending: bytes_7(21),
+        pad_has_pending: bytes(21),
         pending: 22,
         log,
         log_len: 24,
@@ -243,63 +211,55 @@ pub(crate) fn bank_placed() -> PlainBank
     }
 }
 
-pub(crate) fn departure_placed(m: u8) -> PlainDeparture
-    requires { m ≤ 100 }
-    ensures { result ≡ Placed.departure m }
+pub(crate) fn departure_placed(m: Shift) -> PlainDeparture
+    ensures { result ≡ Placed.departure m.more }
 {
     PlainDeparture {
-        serial: 1 + (m as u64),
-        cause: 2 + m,
-        pad_cause: bytes_7(3 + m),
+        serial: u64::from(m.at(1)),
+        cause: m.at(2),
+        pad_cause: m.pad(3),
     }
 }
 
-pub(crate) fn answer_placed(m: u8) -> PlainAnswer
-    requires { m ≤ 100 }
-    ensures { result ≡ Placed.answer m }
+pub(crate) fn answer_placed(m: Shift) -> PlainAnswer
+    ensures { result ≡ Placed.answer m.more }
 {
-    let k = m as u32;
-    let d = departure_placed(0);
-    let z = departure_placed(100);
-    let mut left = [d; MOST_LEFT];
-    left[6] = z;
+    let d = departure_placed(FIRST);
+    let z = departure_placed(LAST);
+    let left = ending(d, z);
     PlainAnswer {
-        code: 1 + m,
-        pad_code: bytes_3(2 + m),
-        dit_ms: float_at(3 + k),
-        dah_ms: float_at(4 + k),
-        pad_dah_ms: bytes_4(5 + m),
-        serial: 6 + (m as u64),
-        challengers: 7 + (m as usize),
+        code: m.at(1),
+        pad_code: m.pad(2),
+        dit_ms: m.float(3),
+        dah_ms: m.float(4),
+        pad_dah_ms: m.pad(5),
+        serial: u64::from(m.at(6)),
+        challengers: usize::from(m.at(7)),
         left,
-        left_len: 9 + (m as usize),
+        left_len: usize::from(m.at(9)),
     }
 }
 
-pub(crate) fn event_placed(m: u8) -> PlainEvent
-    requires { m ≤ 100 }
-    ensures { result ≡ Placed.event m }
+pub(crate) fn event_placed(m: Shift) -> PlainEvent
+    ensures { result ≡ Placed.event m.more }
 {
-    let k = m as u32;
     PlainEvent {
-        kind: 1 + m,
-        live: 2 + m,
-        pad_live: bytes_2(3 + m),
-        value: float_at(4 + k),
+        kind: m.at(1),
+        live: m.at(2),
+        pad_live: m.pad(3),
+        value: m.float(4),
     }
 }
 
-pub(crate) fn rival_placed(m: u8) -> PlainRival
-    requires { m ≤ 100 }
-    ensures { result ≡ Placed.rival m }
+pub(crate) fn rival_placed(m: Shift) -> PlainRival
+    ensures { result ≡ Placed.rival m.more }
 {
-    let k = m as u32;
     PlainRival {
-        serial: 1 + (m as u64),
-        dit_ms: float_at(2 + k),
-        dah_ms: float_at(3 + k),
-        score: float_at(4 + k),
-        gap_score: float_at(5 + k),
+        serial: u64::from(m.at(1)),
+        dit_ms: m.float(2),
+        dah_ms: m.float(3),
+        score: m.float(4),
+        gap_score: m.float(5),
     }
 }
 
@@ -326,21 +286,19 @@ pub fn hullathan_layout_station() -> PlainStation
 pub fn hullathan_layout_answer() -> PlainAnswer
     ensures { result ≡ Placed.answer 0 }
 {
-    answer_placed(0)
+    answer_placed(FIRST)
 }
 
 // A batch.
 pub fn hullathan_layout_batch() -> PlainBatch
     ensures { result ≡ Placed.batch }
 {
-    let e = event_placed(0);
-    let f = event_placed(100);
-    let mut events = [e; 64];
-    events[63] = f;
-    let a = answer_placed(0);
-    let z = answer_placed(100);
-    let mut answers = [a; 64];
-    answers[63] = z;
+    let e = event_placed(FIRST);
+    let f = event_placed(LAST);
+    let events = ending(e, f);
+    let a = answer_placed(FIRST);
+    let z = answer_placed(LAST);
+    let answers = ending(a, z);
     PlainBatch {
         len: 1,
         events,
@@ -352,17 +310,14 @@ pub fn hullathan_layout_batch() -> PlainBatch
 pub fn hullathan_layout_reading() -> PlainReading
     ensures { result ≡ Placed.reading }
 {
-    let v = rival_placed(0);
-    let w = rival_placed(100);
-    let mut rivals = [v; 8];
-    rivals[7] = w;
+    let rivals = ending(rival_placed(FIRST), rival_placed(LAST));
     let log = log_placed();
     PlainReading {
         code: 1,
         ready: 2,
         has_wpm: 3,
         switching: 4,
-        pad_switching: bytes_4(5),
+        pad_switching: bytes(5),
         width: 6,
         dit_ms: float_at(7),
         dah_ms: float_at(8),
@@ -421,7 +376,7 @@ pub fn hullathan_layout_sender_reading() -> SenderReading
         code: 1,
         has_ratio: 2,
         has_word: 3,
-        pad_has_word: bytes_1(4),
+        pad_has_word: bytes(4),
         dit_ms: float_at(5),
         ratio: float_at(6),
         word_dits: float_at(7),

@@ -1,11 +1,13 @@
 // The library for receivers: a station, a bank with a lent tracker and a sender's statistics in the host's own memory,
-// in C or Rust. No contract has a `requires`: whatever bytes stand there, a call does its work or refuses by document
-// 01's number. What the machine must grant (stack, floating-point environment) stands in the header.
+// in C or Rust. No function that `hullathan_c` exports has a `requires`: whatever bytes stand there, a call does its work
+// or refuses by document 01's number. Those within it ask what the tests before them have found. What the machine must
+// grant (stack, floating-point environment) stands in the header.
 #![tactic(auto)]
 
 use bank_model::MOST_LEFT;
 use plain::{PlainDeparture, PlainRecord};
 use plain_station::PlainStation;
+use refusals::Refusal;
 
 pub mod banks;
 pub mod batch;
@@ -32,7 +34,7 @@ pub struct PlainEvent {
 // The answer of a call: its code (0 to 3, or 128 and the refusal's number), the dit and the dah, the primary's serial and how many challengers
 // there are after it, and those that left in it.
 #[repr(C)]
-#[derive(Clone, Copy)]
+#[derive(Clone, Copy, Default)]
 pub struct PlainAnswer {
     pub code: u8,
     pub pad_code: [u8; 3],
@@ -56,7 +58,7 @@ pub struct PlainBatch {
 
 // What a host shows of a challenger.
 #[repr(C)]
-#[derive(Clone, Copy)]
+#[derive(Clone, Copy, Default)]
 pub struct PlainRival {
     pub serial: u64,
     pub dit_ms: f32,
@@ -68,7 +70,7 @@ pub struct PlainRival {
 // What a display and a log need of a station. `marks` and `gaps` are those that the bank has counted, `accepted` the calls; `log` has the
 // switches, the oldest first.
 #[repr(C)]
-#[derive(Clone, Copy)]
+#[derive(Clone, Copy, Default)]
 pub struct PlainReading {
     pub code: u8,
     pub ready: u8,
@@ -112,10 +114,10 @@ pub struct Called {
     pub answer: PlainAnswer,
 }
 
-// A batch that was run: its code, the station after it, and the batch with the answers.
+// A batch: whether it is refused, the station after it, and the batch with the answers.
 #[derive(Clone, Copy)]
 pub struct Ran {
-    pub code: u8,
+    pub told: Result<(), Refusal>,
     pub station: PlainStation,
     pub batch: PlainBatch,
 }

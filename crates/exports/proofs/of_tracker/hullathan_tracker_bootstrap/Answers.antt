@@ -1,8 +1,13 @@
--- `exports::of_tracker::hullathan_tracker_bootstrap` hands on what the call says. Assumes nothing.
-use mathlib.Core.Path.{ap, ◌∙◌}
-use Rattle.exports.specs.Tracker.{code, yes}
-use Rattle.exports.proofs.Handing.{handed}
+-- `exports::of_tracker::hullathan_tracker_bootstrap` meets its contract. Assumes nothing.
+use Rattle.ranges.specs.Settings.{standard}
+use Rattle.tracker.specs.Model.{view}
+use Rattle.tracker.specs.Steps.{bootstrapped, can_begin}
+use Rattle.exports.proofs.Handing.{said_on}
 use Rattle.exports.proofs.of_tracker.hullathan_tracker_bootstrap.Goals as goal
 
 pub returns : goal.returns
-returns c = record { code_value = c.said.ensures.0 ∙ ap code c.bootstrap.ensures.says; yes_value = c.said.ensures.1 ∙ ap yes c.bootstrap.ensures.says; handed = handed c.bootstrap.ensures c.said.ensures.2 }
+returns c =
+    let h =
+    said_on c.args.t _ c.read_as-u.ensures 0 (λ z. can_begin (view z))
+    (λ z. bootstrapped standard (view z)) _ _ c.said.result c.bootstrap-answer.ensures c.said.ensures in
+    record { code_value = h.0; yes_value = h.1; handed = h.2 }

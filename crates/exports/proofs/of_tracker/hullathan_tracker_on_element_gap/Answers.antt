@@ -1,8 +1,15 @@
--- `exports::of_tracker::hullathan_tracker_on_element_gap` hands on what the call says. Assumes nothing.
-use mathlib.Core.Path.{ap, ◌∙◌}
-use Rattle.exports.specs.Tracker.{code}
-use Rattle.exports.proofs.Handing.{handed}
+-- `exports::of_tracker::hullathan_tracker_on_element_gap` meets its contract. Assumes nothing.
+use Rattle.ranges.specs.Limits.{duration_refusal}
+use Rattle.ranges.specs.Settings.{standard}
+use Rattle.tracker.specs.Model.{view}
+use Rattle.tracker.specs.Steps.{on_gap}
+use Rattle.exports.proofs.Handing.{told_on}
 use Rattle.exports.proofs.of_tracker.hullathan_tracker_on_element_gap.Goals as goal
 
 pub returns : goal.returns
-returns c = record { code_value = c.told.ensures.0 ∙ ap code c.on_element_gap.ensures.says; handed = handed c.on_element_gap.ensures c.told.ensures.1 }
+returns c =
+    let h =
+    told_on c.args.t _ c.read_as-u.ensures (duration_refusal c.args.dur_ms)
+    (λ z. on_gap standard
+    (view z) c.args.dur_ms) _ _ c.told.result c.on_element_gap-answer.ensures c.told.ensures in
+    record { code_value = h.0; handed = h.1 }

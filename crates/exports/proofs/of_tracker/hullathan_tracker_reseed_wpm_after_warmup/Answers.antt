@@ -1,11 +1,14 @@
--- `exports::of_tracker::hullathan_tracker_reseed_wpm_after_warmup` hands on what the call says. Assumes nothing.
-use mathlib.Core.Path.{ap, ◌∙◌}
-use Rattle.exports.specs.Tracker.{code}
-use Rattle.exports.proofs.Handing.{handed}
-use Rattle.exports.proofs.of_tracker.hullathan_tracker_reseed_wpm_after_warmup.Statement.{
-  statement,
-}
+-- `exports::of_tracker::hullathan_tracker_reseed_wpm_after_warmup` meets its contract. Assumes nothing.
+use Rattle.ranges.specs.Settings.{standard}
+use Rattle.tracker.specs.Model.{view}
+use Rattle.tracker.specs.Steps.{reseeded}
+use Rattle.exports.proofs.Handing.{told_on}
 use Rattle.exports.proofs.of_tracker.hullathan_tracker_reseed_wpm_after_warmup.Goals as goal
 
 pub returns : goal.returns
-returns c = record { code_value = c.told.ensures.0 ∙ ap code c.reseed_wpm_after_warmup.ensures.says; handed = handed c.reseed_wpm_after_warmup.ensures c.told.ensures.1 }
+returns c =
+    let h =
+    told_on c.args.t _ c.read_as-u.ensures 0
+    (λ z. reseeded standard
+    (view z)) _ _ c.told.result c.reseed_wpm_after_warmup-answer.ensures c.told.ensures in
+    record { code_value = h.0; handed = h.1 }

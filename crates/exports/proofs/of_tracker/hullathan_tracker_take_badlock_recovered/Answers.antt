@@ -1,11 +1,12 @@
--- `exports::of_tracker::hullathan_tracker_take_badlock_recovered` hands on what the call says. Assumes nothing.
-use mathlib.Core.Path.{ap, ◌∙◌}
-use Rattle.exports.specs.Tracker.{code, yes}
-use Rattle.exports.proofs.Handing.{handed}
-use Rattle.exports.proofs.of_tracker.hullathan_tracker_take_badlock_recovered.Statement.{
-  statement,
-}
+-- `exports::of_tracker::hullathan_tracker_take_badlock_recovered` meets its contract. Assumes nothing.
+use Rattle.tracker.specs.Model.{view}
+use Rattle.tracker.specs.Steps.{settled}
+use Rattle.exports.proofs.Handing.{said_on}
 use Rattle.exports.proofs.of_tracker.hullathan_tracker_take_badlock_recovered.Goals as goal
 
 pub returns : goal.returns
-returns c = record { code_value = c.said.ensures.0 ∙ ap code c.take_badlock_recovered.ensures.says; yes_value = c.said.ensures.1 ∙ ap yes c.take_badlock_recovered.ensures.says; handed = handed c.take_badlock_recovered.ensures c.said.ensures.2 }
+returns c =
+    let h =
+    said_on c.args.t _ c.read_as-u.ensures 0 (λ z. (view z).recovered)
+    (λ z. settled (view z)) _ _ c.said.result c.take_badlock_recovered-answer.ensures c.said.ensures in
+    record { code_value = h.0; yes_value = h.1; handed = h.2 }

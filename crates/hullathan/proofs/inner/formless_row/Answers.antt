@@ -4,8 +4,5 @@ use Rattle.hullathan.specs.Host.{row_of}
 use Rattle.hullathan.proofs.Asking.{turns_none}
 use Rattle.hullathan.proofs.inner.formless_row.Goals as goal
 
-pub row-requires : goal.row-requires
-row-requires c = let t = turns_none _ _ c.refuse.result c.requires c.formless.ensures c.refuse.ensures in record { code_bound = (t.small, t.few); solid = t.solid }
-
 pub returns : goal.returns
 returns c = c.row.ensures ∙ ap row_of (turns_none _ _ c.refuse.result c.requires c.formless.ensures c.refuse.ensures).is

@@ -3,4 +3,4 @@ use Rattle.hullathan.proofs.Starting.{begun}
 use Rattle.hullathan.proofs.start.started.Goals as goal
 
 pub returns : goal.returns
-returns c = begun _ _ _ _ _ _ _ c.is_on-on.ensures c.start_code-code.ensures c.plain_station-station.ensures c.fresh-a.ensures
+returns c = begun _ _ _ _ _ _ _ c.is_on.ensures c.coded.ensures c.from.ensures c.fresh-fresh.ensures

@@ -1,5 +1,0 @@
--- `exports::of_lent::lent_answer` meets its contract. Assumes nothing.
-use Rattle.exports.proofs.of_lent.lent_answer.Goals as goal
-
-pub returns : goal.returns
-returns c = rw (c.handed-bank.ensures, c.flag_code-code.ensures, c.flag_yes.ensures)
