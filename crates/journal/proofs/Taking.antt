@@ -1,7 +1,9 @@
 -- What a read answered, and what all reads come to. Assumes nothing.
-use Rattle.std.proofs.Common.{◌≡◌, refl, ap, sym, ◌∙◌, subst, Bool, true, false, ◌&&◌, ◌⊎◌, inl, inr, true≢false, List, [], ◌++◌, ℕ, zero, suc, ◌≤◌, ◌<◌, arith, ltb, ltb-true, ltb-false, length, take, Option, Result, Ok, Err, take_all}
+use Rattle.std.proofs.Common.{◌≡◌, refl, ap, sym, ◌∙◌, subst, Bool, true, false, inl, inr, List, [], ◌++◌, ℕ}
+use Rattle.std.proofs.Common.{zero, suc, ◌≤◌, ◌<◌, arith, ltb-true, ltb-false, length, take, Option, Result, Ok}
+use Rattle.std.proofs.Common.{Err, IfOk, OnOk, take_all}
 use Rattle.std.specs.declared.io.Error.{Error}
-use Rattle.std.specs.Io.KnownBytes.{Appends, Consumes, IsAtEnd, ReadConsumes}
+use Rattle.std.specs.Io.KnownBytes.{Appends, Consumes, ReadConsumes}
 use Rattle.std.proofs.KnownBytes.{Appends-trans, Consumes-trans}
 use Rattle.ranges.specs.Settings.{standard}
 use Rattle.journal_lines.specs.declared.Journal.{Journal}
@@ -9,87 +11,68 @@ use Rattle.journal_lines.specs.Pieces.{feed}
 use Rattle.journal_lines.specs.Pieces as Pieces
 use Rattle.journal_lines.specs.Parts.{Goes, viewed}
 use Rattle.journal_lines.proofs.Joining.{feed_append}
-use Rattle.journal.specs.declared.Went.{Went}
-use Rattle.journal.specs.Program.{Heard, Moved, Moves, Read, Reads, Took, came, stopped}
+use Rattle.journal.specs.declared.Failed.{Failed}
+use Rattle.journal.specs.Program.{Moved, Read, Reads, Took, came}
 use Rattle.journal.proofs.Serving.{Appends-none}
 
 -- ---- one read
 
--- the journal after some bytes more
-record Onward (j : Journal) (w : Went) : Type 0 where
-  pub bytes : List ℕ
-  pub journal : viewed w.journal ≡ (feed standard (viewed j) bytes).journal
-  pub goes : Goes w.journal
-
-stands : (j : Journal) (b : Bool) (w : Went) → Goes j → w ≡ stopped j b → Onward j w
+-- nothing more was heard
+as_before : (j j' : Journal) → Goes j → j' ≡ j → Reads j j'
 unfolding feed
-stands j b w g e = record {
+as_before j j' g e = record {
   bytes = [];
-  journal = ap (λ (x : Went). viewed x.journal) e;
-  goes = subst (λ (i : Journal). Goes i) (sym (ap (λ (x : Went). x.journal) e)) g;
+  journal = ap viewed e;
+  goes = subst (λ (i : Journal). Goes i) (sym e) g;
 }
 
-onward : (j : Journal) (buffer : List ℕ) (w : Went) → Goes j → (r : Result ℕ Error) → Took j r buffer w → Onward j w
-onward j buffer w g (Err e) t = stands j false w g t
-onward j buffer w g (Ok zero) t = stands j true w g t
-onward j buffer w g (Ok (suc n)) t =
-    record { bytes = take t.up_to (take (suc n) buffer); journal = t.journal; goes = t.goes }
-
-both : (a b : Bool) → (a && b) ≡ true → b ≡ true
-both true b e = e
-both false b e = absurd (true≢false (sym e))
+-- the journal after some bytes more
+onward : (j : Journal) (buffer : List ℕ) (j' : Journal) (r : Result Bool Failed) → Goes j → (got : Result ℕ Error)
+    → Took j got buffer j' r → Reads j j'
+unfolding feed
+onward j buffer j' r g (Err e) t = as_before j j' g t.0
+onward j buffer j' r g (Ok zero) t = as_before j j' g t.0
+onward j buffer j' r g (Ok (suc n)) t =
+    record { bytes = take t.0.up_to (take (suc n) buffer); journal = t.0.journal; goes = t.0.goes }
 
 -- there is more to read: a line may still be read
-left_some : (j : Journal) (buffer : List ℕ) (w : Went) → w.more ≡ true → (r : Result ℕ Error) → Took j r buffer w
-    → 0 < w.journal.left
-left_some j buffer w m (Err e) t = absurd (true≢false (sym m ∙ ap (λ (x : Went). x.more) t))
-left_some j buffer w m (Ok zero) t = absurd (true≢false (sym m ∙ ap (λ (x : Went). x.more) t))
-left_some j buffer w m (Ok (suc n)) t = ltb-true 0 w.journal.left (both w.well _ (sym t.more ∙ m))
-
--- there is more to read: all went well
-more_well : (j : Journal) (buffer : List ℕ) (w : Went) → w.more ≡ true → (r : Result ℕ Error) → Took j r buffer w
-    → w.well ≡ true
-more_well j buffer w m (Err e) t = absurd (true≢false (sym m ∙ ap (λ (x : Went). x.more) t))
-more_well j buffer w m (Ok zero) t = ap (λ (x : Went). x.well) t
-more_well j buffer w m (Ok (suc n)) t = first w.well _ (sym t.more ∙ m)
-  where
-    first : (a b : Bool) → (a && b) ≡ true → a ≡ true
-    first true b e = refl
-    first false b e = e
+some_left : (j : Journal) (buffer : List ℕ) (j' : Journal) (more : Bool) → more ≡ true → (got : Result ℕ Error)
+    → Took j got buffer j' (Ok more) → 0 < j'.left
+some_left j buffer j' more m (Err e) t = cc
+some_left j buffer j' more m (Ok zero) t = cc
+some_left j buffer j' more m (Ok (suc n)) t = ltb-true 0 j'.left (sym t.1 ∙ m)
 
 -- nothing was given: nothing is answered
-pub nothing : (c : Option (List ℕ)) (j : Journal) (r : Result ℕ Error) (buffer : List ℕ) (n : ℕ) → r ≡ Ok n → n ≡ 0
-    → Appends c c (feed standard (viewed j) (came r buffer)).put
+pub nothing : (c : Option (List ℕ)) (j : Journal) (got : Result ℕ Error) (buffer : List ℕ) (n : ℕ) → got ≡ Ok n → n ≡ 0
+    → Appends c c (feed standard (viewed j) (came got buffer)).put
 unfolding feed
-nothing c j r buffer n e z =
+nothing c j got buffer n e z =
     subst (λ (x : List ℕ). Appends c c (feed standard (viewed j) x).put)
     (sym (ap (λ (x : Result ℕ Error). came x buffer) e ∙ ap (λ (m : ℕ). take m buffer) z)) (Appends-none c)
 
-none_left : (n : ℕ) → ltb 0 n ≡ false → n ≡ 0
-none_left n e = let h = ltb-false 0 n e in omega arith
-
 -- what a read took from the input and put into the output
-pub moves : (j : Journal) (r : Result ℕ Error) (buffer : List ℕ) (w : Went) → Took j r buffer w
-    → (i i' : Option (List ℕ)) → ReadConsumes i i' r buffer
-    → (c c' : Option (List ℕ)) → (w.well ≡ true → Appends c c' (feed standard (viewed j) (came r buffer)).put)
-    → Moves j (length buffer) i i' c c' w
+pub moves : (j : Journal) (got : Result ℕ Error) (buffer : List ℕ) (j' : Journal) (r : Result Bool Failed)
+    → Took j got buffer j' r → (i i' : Option (List ℕ)) → ReadConsumes i i' got buffer → (c c' : Option (List ℕ))
+    → OnOk r (Appends c c' (feed standard (viewed j) (came got buffer)).put)
+    → IfOk r (λ more. Moved j (length buffer) i i' c c' j' more)
 unfolding feed
-moves j (Err e) buffer w t i i' k c c' a well = absurd (true≢false (sym well ∙ ap (λ (x : Went). x.well) t))
-moves j (Ok zero) buffer w t i i' k c c' a well = record {
+moves j got buffer j' (Err e) t i i' k c c' a = tt
+moves j (Err e) buffer j' (Ok more) t i i' k c c' a = cc
+moves j (Ok zero) buffer j' (Ok more) t i i' k c c' a = record {
   bytes = [];
   read = k.0;
-  wrote = a well;
-  journal = ap (λ (x : Went). viewed x.journal) t;
+  wrote = a;
+  journal = ap viewed t.0;
   ends = λ m h. inr (k.1 refl h);
 }
-moves j (Ok (suc n)) buffer w t i i' k c c' a well = record {
+moves j (Ok (suc n)) buffer j' (Ok more) t i i' k c c' a = record {
   bytes = take (suc n) buffer;
   read = k.0;
-  wrote = a well;
-  journal = t.journal ∙ ap (λ (l : List ℕ). (feed standard (viewed j) l).journal)
-      (take_all t.up_to (take (suc n) buffer) (let e = t.all well in omega arith));
-  ends = λ m h.
-      inl (none_left w.journal.left (sym (ap (λ (b : Bool). b && ltb 0 w.journal.left) well) ∙ sym t.more ∙ m));
+  wrote = a;
+  journal = t.0.journal
+      ∙ ap (λ (l : List ℕ). (feed standard (viewed j) l).journal)
+      (take_all t.0.up_to (take (suc n) buffer) (let e = t.0.all in omega arith));
+  ends = λ m h. inl (let e = ltb-false 0 j'.left (sym t.1 ∙ m) in omega arith);
 }
 
 -- ---- all reads
@@ -140,46 +123,33 @@ module _ (j₀ : Journal) (buffer₀ out₀ : List ℕ) (i₀ c₀ : Option (Lis
       ap (λ (v : Pieces.Journal). (feed standard (viewed j₀) k.bytes).put ++ (feed standard v l).put) k.journal
       ∙ sym (ap (λ (f : Pieces.Fed). f.put) (feed_append standard (viewed j₀) k.bytes l))
 
-  module _ (is : List ℕ) (w : Went) (r : Read j is w) (i' c' : Option (List ℕ))
-      (m : Moves j (length buffer) i i' c c' w) where
-    more : Onward j w
-    more = onward j is w k.goes r.got r.took
-
-    pub read_turns : w.more ≡ true → length is ≡ length buffer → (outs : List ℕ) → length outs ≡ length out
-        → Reading j₀ buffer₀ out₀ i₀ c₀ is outs i' c' w.journal
-    read_turns e b outs f =
-        let n = m (more_well j is w e r.got r.took) in
-        record {
-          goes = more.goes;
-          some = left_some j is w e r.got r.took;
-          bytes = k.bytes ++ n.bytes;
-          journal = n.journal ∙ then n.bytes;
-          buffers = b ∙ k.buffers;
-          outs = f ∙ k.outs;
-          room = k.room;
-          read = Consumes-trans _ _ _ _ _ k.read n.read;
-          wrote = subst (Appends c₀ c') (then_put n.bytes) (Appends-trans _ _ _ _ _ k.wrote n.wrote);
-        }
-
-    pub all_moved : Moves j₀ (length buffer₀) i₀ i' c₀ c' w
-    all_moved well =
-        let n = m well in
-        record {
-          bytes = k.bytes ++ n.bytes;
-          read = Consumes-trans _ _ _ _ _ k.read n.read;
-          wrote = subst (Appends c₀ c') (then_put n.bytes) (Appends-trans _ _ _ _ _ k.wrote n.wrote);
-          journal = n.journal ∙ then n.bytes;
-          ends = λ e h. n.ends e (let l = k.buffers in omega arith);
-        }
-
-    pub read_ends : w.more ≡ false → Reads j₀ w
-    read_ends m = record {
-      bytes = k.bytes ++ more.bytes;
-      journal = more.journal ∙ then more.bytes;
-      stops = m;
-      goes = more.goes;
+  module _ (j' : Journal) (i' c' : Option (List ℕ)) where
+    pub read_turns : (more : Bool) → more ≡ true → (is outs : List ℕ) → Read j is j' (Ok more)
+        → Moved j (length buffer) i i' c c' j' more
+        → length is ≡ length buffer → length outs ≡ length out → Reading j₀ buffer₀ out₀ i₀ c₀ is outs i' c' j'
+    read_turns more t is outs m n b f = record {
+      goes = (onward j is j' (Ok more) k.goes m.got m.took).goes;
+      some = some_left j is j' more t m.got m.took;
+      bytes = k.bytes ++ n.bytes;
+      journal = n.journal ∙ then n.bytes;
+      buffers = b ∙ k.buffers;
+      outs = f ∙ k.outs;
+      room = k.room;
+      read = Consumes-trans _ _ _ _ _ k.read n.read;
+      wrote = subst (Appends c₀ c') (then_put n.bytes) (Appends-trans _ _ _ _ _ k.wrote n.wrote);
     }
 
-  -- no run gets there
-  pub read_stops : Reads j₀ (record { journal = j; more = false; well = false })
-  read_stops = record { bytes = k.bytes; journal = k.journal; stops = refl; goes = k.goes }
+    pub all_moved : (more : Bool) → more ≡ false → Moved j (length buffer) i i' c c' j' more
+        → Moved j₀ (length buffer₀) i₀ i' c₀ c' j' false
+    all_moved more t n = record {
+      bytes = k.bytes ++ n.bytes;
+      read = Consumes-trans _ _ _ _ _ k.read n.read;
+      wrote = subst (Appends c₀ c') (then_put n.bytes) (Appends-trans _ _ _ _ _ k.wrote n.wrote);
+      journal = n.journal ∙ then n.bytes;
+      ends = λ e h. n.ends t (let l = k.buffers in omega arith);
+    }
+
+  pub read_reads : (j' : Journal) (is : List ℕ) (r : Result Bool Failed) → Read j is j' r → Reads j₀ j'
+  read_reads j' is r m =
+      let o = onward j is j' r k.goes m.got m.took in
+      record { bytes = k.bytes ++ o.bytes; journal = o.journal ∙ then o.bytes; goes = o.goes }

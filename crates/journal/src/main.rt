@@ -2,275 +2,178 @@
 // output.
 #![tactic(auto)]
 
-ghost use Rattle.std.specs.Prelude.{◌≡◌, true, ◌≤◌, ◌<◌, length, take};
+ghost use Rattle.std.specs.Prelude.{◌≡◌, false, ◌≤◌, ◌<◌, length, IfOk, OnOk};
 ghost use Rattle.std.specs.Io.{ReadsAtMost};
 ghost use Rattle.std.specs.Io.KnownBytes.{Appends};
 ghost use Rattle.ranges.specs.Settings.{standard};
-ghost use Rattle.journal_lines.specs.Pieces.{end, feed};
+ghost use Rattle.journal_lines.specs.Pieces.{end, feed, start};
 ghost use Rattle.journal_lines.specs.Parts.{Goes, viewed};
-ghost use Rattle.journal.specs.Program.{Answers, Closes, Heard, Moves, Read, Reads, Serves, Took, Whole, came, going};
+ghost use Rattle.journal.specs.Program.{Heard, Moved, Read, Reads, Serves, Took, Whole, came};
 
 use journal_lines::Journal;
 use journal_lines::inner::ends::{end, start};
 use journal_lines::inner::feed::feed;
-use std::io;
 use std::io::{Read, Write};
 use std::process::ExitCode;
+use std::{fmt, io};
 
-// The journal after what was read, whether there is more to read, and whether reading and writing went well.
-#[derive(Clone, Copy)]
-struct Went {
-    journal: Journal,
-    more: bool,
-    well: bool,
+// Why the program gives up.
+#[derive(Debug, Drop)]
+enum Failed {
+    Read(io::Error),
+    Write(io::Error),
+    Endless,
 }
 
-// Writes, or says why it cannot.
-fn write<W: Write, E: Eprint>(to: &mut W, rt: &E, bytes: &[u8]) -> bool
-    ensures { result ≡ true → Appends (W.contents to.old) (W.contents to.new) bytes.now }
-{
-    match to.write_all(bytes) {
-        Ok(()) => true,
-        Err(e) => {
-            let _ = eprintln!(rt; "journal: cannot write to standard output: {e}");
-            false
+impl fmt::Display for Failed {
+    fn fmt<W: fmt::Write>(&self, f: &mut fmt::Formatter<W>) -> fmt::Result {
+        match self {
+            Failed::Read(e) => write!(f, "cannot read from standard input: {e}"),
+            Failed::Write(e) => write!(f, "cannot write to standard output: {e}"),
+            Failed::Endless => write!(f, "standard input does not end"),
         }
     }
 }
 
-// Goes on with a journal: after the last line that may be read there is no more to read.
-fn go_on(journal: Journal, well: bool) -> Went
-    ensures { result ≡ going journal well }
+// Writes the answers to what was heard. `was` and `heard` stand here for what is asked: they say whose answers these
+// are.
+fn put<W: Write>(was: &Journal, heard: &[u8], answers: &[u8], to: &mut W) -> Result<(), Failed>
+    requires { answers.now ≡ (feed standard (viewed was.now) heard.now).put }
+    ensures { OnOk result (Appends (W.contents to.old) (W.contents to.new) answers.now) }
 {
-    if well {
-        let more = 0 < journal.left;
-        return Went {
-            journal,
-            more,
-            well: true,
-        };
-    }
-    Went {
-        journal,
-        more: false,
-        well: false,
-    }
-}
-
-// Writes the answers to what was heard, and goes on with the journal after it. `was` and `heard` stand here for what is
-// asked: they say whose answers these are.
-fn put<W: Write, E: Eprint>(
-    was: Went,
-    heard: &[u8],
-    next: Journal,
-    answers: &[u8],
-    to: &mut W,
-    rt: &E,
-) -> Went
-    requires well_value { was.well ≡ true }
-    requires answers { Answers was.journal heard.now next answers.now }
-    ensures value { result ≡ going next result.well }
-    ensures wrote { result.well ≡ true → Appends (W.contents to.old) (W.contents to.new) answers.now }
-{
-    go_on(next, write(to, rt, answers))
+    to.write_all(answers).map_err(Failed::Write)
 }
 
 // A piece of the input is answered, a buffer full at a time.
-fn answer<W: Write, E: Eprint>(j: Journal, piece: &[u8], out: &mut [u8], to: &mut W, rt: &E) -> Went
-    requires goes { Goes j }
+fn answer<W: Write>(j: &mut Journal, piece: &[u8], out: &mut [u8], to: &mut W) -> Result<(), Failed>
+    requires goes { Goes j.old }
     requires in_bounds { 80 ≤ length out.old }
-    ensures heard { Heard j piece.now result }
-    ensures wrote { result.well ≡ true →
-        Appends (W.contents to.old) (W.contents to.new) (feed standard (viewed j) piece.now).put }
+    ensures heard { Heard j.old piece.now j.new result }
+    ensures wrote { OnOk result
+        (Appends (W.contents to.old) (W.contents to.new) (feed standard (viewed j.old) piece.now).put) }
 {
-    let mut went = go_on(j, true);
-    let mut at: usize = 0;
+    let mut at = 0;
     while at < piece.len() {
-        let r = feed(went.journal, &piece[at..], out);
-        let next = at + r.used;
-        let n = r.put;
-        went = put(went, &piece[at..next], r.journal, &out[..n], to, rt);
-        if !went.well {
-            return went;
-        }
+        let was = *j;
+        let fed = feed(j, &piece[at..], out);
+        let next = at + fed.used;
+        put(&was, &piece[at..next], &out[..fed.put], to)?;
         at = next;
     }
-    went
+    Ok(())
 }
 
-// The bytes at the front of a buffer are answered.
-fn answer_front<W: Write, E: Eprint>(
-    j: Journal,
-    n: usize,
-    buffer: &[u8],
-    out: &mut [u8],
-    to: &mut W,
-    rt: &E,
-) -> Went
-    requires goes { Goes j }
-    requires prefix_len { n ≤ length buffer.now }
-    requires in_bounds { 80 ≤ length out.old }
-    ensures heard { Heard j (take n buffer.now) result }
-    ensures wrote { result.well ≡ true →
-        Appends (W.contents to.old) (W.contents to.new) (feed standard (viewed j) (take n buffer.now)).put }
-{
-    answer(j, &buffer[..n], out, to, rt)
-}
-
-// What a read answered: it failed, the input is at its end, or so many bytes stand at the front of the buffer.
-#[tactic(auto, using(crate::proofs::Taking::nothing))]
-fn take<W: Write, E: Eprint>(
-    j: Journal,
+// What a read answered: it failed, the input is at its end, or so many bytes stand at the front of the buffer. Answers
+// whether there is more to read.
+fn take<W: Write>(
+    j: &mut Journal,
     got: io::Result<usize>,
     buffer: &[u8],
     out: &mut [u8],
     to: &mut W,
-    rt: &E,
-) -> Went
-    requires goes { Goes j }
+) -> Result<bool, Failed>
+    requires goes { Goes j.old }
     requires moved { ReadsAtMost got buffer.now }
     requires in_bounds { 80 ≤ length out.old }
-    ensures took { Took j got buffer.now result }
-    ensures wrote { result.well ≡ true →
-        Appends (W.contents to.old) (W.contents to.new) (feed standard (viewed j) (came got buffer.now)).put }
+    ensures took { Took j.old got buffer.now j.new result }
+    ensures wrote { OnOk result
+        (Appends (W.contents to.old) (W.contents to.new) (feed standard (viewed j.old) (came got buffer.now)).put) }
 {
-    match got {
-        Err(e) => {
-            let _ = eprintln!(rt; "journal: cannot read from standard input: {e}");
-            Went {
-                journal: j,
-                more: false,
-                well: false,
-            }
-        }
-        Ok(n) => {
-            if n == 0 {
-                return Went {
-                    journal: j,
-                    more: false,
-                    well: true,
-                };
-            }
-            answer_front(j, n, buffer, out, to, rt)
-        }
+    let n = got.map_err(Failed::Read)?;
+    if n == 0 {
+        return Ok(false);
     }
+    answer(j, &buffer[..n], out, to)?;
+    Ok(j.left > 0)
 }
 
-// Reads once, and answers what came. It is asked only while a line may be read.
-fn read_some<I: Read, W: Write, E: Eprint>(
-    j: Journal,
+// Reads once, and answers what came; whether there is more to read. It is asked only while a line may be read.
+fn read_some<I: Read, W: Write>(
+    j: &mut Journal,
     buffer: &mut [u8],
     out: &mut [u8],
     from: &mut I,
     to: &mut W,
-    rt: &E,
-) -> Went
-    requires goes { Goes j }
-    requires left_nonzero { 0 < j.left }
+) -> Result<bool, Failed>
+    requires goes { Goes j.old }
+    requires left_nonzero { 0 < j.old.left }
     requires in_bounds { 80 ≤ length out.old }
-    ensures read { Read j buffer.new result }
-    ensures moves { Moves j (length buffer.old) (I.remaining from.old) (I.remaining from.new) (W.contents to.old)
-        (W.contents to.new) result }
+    ensures read { Read j.old buffer.new j.new result }
+    ensures moves { IfOk result (λ more. Moved j.old (length buffer.old) (I.remaining from.old) (I.remaining from.new)
+        (W.contents to.old) (W.contents to.new) j.new more) }
 {
     let got = from.read(buffer);
-    take(j, got, buffer, out, to, rt)
+    take(j, got, buffer, out, to)
 }
 
 // Reads and answers until there is no more. A proved loop has to end, and nothing says that an input does: the loop
-// counts its turns down, from a number that no run uses up.
-fn run<I: Read, W: Write, E: Eprint>(
-    j: Journal,
+// counts its turns, and no run uses them up.
+fn run<I: Read, W: Write>(
+    j: &mut Journal,
     buffer: &mut [u8],
     out: &mut [u8],
     from: &mut I,
     to: &mut W,
-    rt: &E,
-) -> Went
-    requires goes { Goes j }
-    requires left_nonzero { 0 < j.left }
+) -> Result<(), Failed>
+    requires goes { Goes j.old }
+    requires left_nonzero { 0 < j.old.left }
     requires in_bounds { 80 ≤ length out.old }
-    ensures reads { Reads j result }
-    ensures moves { Moves j (length buffer.old) (I.remaining from.old) (I.remaining from.new) (W.contents to.old)
-        (W.contents to.new) result }
+    ensures reads { Reads j.old j.new }
+    ensures moves { OnOk result (Moved j.old (length buffer.old) (I.remaining from.old) (I.remaining from.new)
+        (W.contents to.old) (W.contents to.new) j.new false) }
 {
-    let mut journal = j;
-    let mut turns = u64::MAX;
-    while turns > 0 {
-        turns -= 1;
-        let w = read_some(journal, buffer, out, from, to, rt);
-        journal = w.journal;
-        if !w.more {
-            return w;
+    for _ in 0..u64::MAX {
+        let more = read_some(j, buffer, out, from, to)?;
+        if !more {
+            return Ok(());
         }
     }
-    Went {
-        journal,
-        more: false,
-        well: false,
-    }
+    Err(Failed::Endless)
 }
 
-// Writes what there is at the end, after answers that all were written. `was` stands here for what is asked.
-fn put_last<W: Write, E: Eprint>(was: Went, answers: &[u8], to: &mut W, rt: &E) -> bool
-    requires well_value { was.well ≡ true }
-    requires answers_value { answers.now ≡ end (viewed was.journal) }
-    ensures { result ≡ true → Appends (W.contents to.old) (W.contents to.new) answers.now }
+// Writes what there is at the end. `was` stands here for what is asked.
+fn put_last<W: Write>(was: &Journal, last: &[u8], to: &mut W) -> Result<(), Failed>
+    requires { last.now ≡ end (viewed was.now) }
+    ensures { OnOk result (Appends (W.contents to.old) (W.contents to.new) last.now) }
 {
-    write(to, rt, answers)
+    to.write_all(last).map_err(Failed::Write)
 }
 
-// The end of the input: a last line without its newline is answered.
-fn close<W: Write, E: Eprint>(w: Went, out: &mut [u8], to: &mut W, rt: &E) -> Went
-    requires goes { Goes w.journal }
-    requires well_value { w.well ≡ true }
-    requires in_bounds { 80 ≤ length out.old }
-    ensures closes { Closes w out.old out.new result }
-    ensures wrote { result.well ≡ true →
-        Appends (W.contents to.old) (W.contents to.new) (end (viewed w.journal)) }
-{
-    let journal = w.journal;
-    let n = end(journal, out);
-    let well = put_last(w, &out[..n], to, rt);
-    Went {
-        journal,
-        more: false,
-        well,
-    }
-}
-
-// All of it, from a fresh journal to the end of the input.
-fn serve<I: Read, W: Write, E: Eprint>(
+// All of it, with a fresh journal, to the end of the input, where a last line without its newline is answered.
+fn serve<I: Read, W: Write>(
+    j: &mut Journal,
     buffer: &mut [u8],
     out: &mut [u8],
     from: &mut I,
     to: &mut W,
-    rt: &E,
-) -> Went
-    requires { 80 ≤ length out.old }
-    ensures serves { Serves out.new result }
-    ensures whole { 0 < length buffer.old → result.well ≡ true →
-        Whole (I.remaining from.old) (W.contents to.old) (W.contents to.new) }
+) -> Result<(), Failed>
+    requires fresh { viewed j.old ≡ start }
+    requires goes { Goes j.old }
+    requires in_bounds { 80 ≤ length out.old }
+    ensures serves { Serves j.new out.new result }
+    ensures whole { 0 < length buffer.old →
+        OnOk result (Whole (I.remaining from.old) (W.contents to.old) (W.contents to.new)) }
 {
-    let w = run(start(), buffer, out, from, to, rt);
-    if w.well {
-        return close(w, out, to, rt);
-    }
-    w
+    run(j, buffer, out, from, to)?;
+    let n = end(j, out);
+    put_last(j, &out[..n], to)
 }
 
 fn main(rt: HostRuntime) -> ExitCode {
+    let mut journal = start();
     let mut buffer = [0u8; 65536];
     let mut out = [0u8; 65536];
-    let went = serve(
+    match serve(
+        &mut journal,
         &mut buffer,
         &mut out,
         &mut rt.stdin(),
         &mut rt.stdout(),
-        &rt,
-    );
-    if went.well {
-        ExitCode::SUCCESS
-    } else {
-        ExitCode::FAILURE
+    ) {
+        Ok(()) => ExitCode::SUCCESS,
+        Err(e) => {
+            let _ = eprintln!(rt; "journal: {e}");
+            ExitCode::FAILURE
+        }
     }
 }

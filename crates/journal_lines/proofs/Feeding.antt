@@ -1,16 +1,16 @@
 -- A piece of the input, line by line: what its bytes do, one after the other. Assumes nothing.
-use mathlib.Core.Path.{◌≡◌, refl, ap, sym, ◌∙◌, subst}
+use mathlib.Core.Path.{◌≡◌, refl, ap, sym, ◌∙◌}
 use mathlib.Core.Bool.{Bool, true, false, cond, true≢false, false≢true}
-use mathlib.Core.List.{List, [], ◌∷◌, ◌++◌, append_assoc, append-nil}
-use Prim.Native.Nat.{ℕ, zero, suc, ◌+◌, ◌-◌, ◌≤◌, ◌<◌}
+use mathlib.Core.List.{List, [], ◌∷◌, ◌++◌, append-nil}
+use Prim.Native.Nat.{ℕ, suc, ◌+◌, ◌-◌, ◌≤◌, ◌<◌}
 use native.Mathlib.Omega.{arith}
 use native.Mathlib.Nat.{sub-zero}
 use borrow.Author.Tests.{le-leb, lt-leb}
-use lib.Dec.{eqb, leb}
+use lib.Dec.{eqb}
 use lib.ListN.{length, take, drop}
 use Rattle.ranges.specs.Settings.{Settings}
 use Rattle.station_model.proofs.Lists.{by_cond}
-use Rattle.journal_lines.specs.Pieces.{Journal, Fed, byte, ended, feed, hold, holding, read, within}
+use Rattle.journal_lines.specs.Pieces.{Journal, Fed, byte, ended, feed, holding, read, within}
 use Rattle.journal_lines.specs.Parts.{has_newline, keeps, up_to_newline}
 
 -- the journal with other bytes held
@@ -33,7 +33,8 @@ later b l w q = sym (rw w) ∙ q
 pub taken_few : (l : List ℕ) → up_to_newline l ≤ length l
 unfolding up_to_newline
 taken_few [] = omega arith
-taken_few (b ∷ l) = by_cond (λ (n : ℕ). n ≤ suc (length l)) (eqb b 10) (λ q. omega arith) (λ q. (let h = taken_few l in omega arith))
+taken_few (b ∷ l) =
+    by_cond (λ (n : ℕ). n ≤ suc (length l)) (eqb b 10) (λ q. omega arith) (λ q. (let h = taken_few l in omega arith))
 
 pub taken_some : (l : List ℕ) → 0 < length l → 0 < up_to_newline l
 unfolding up_to_newline
@@ -64,12 +65,17 @@ module _ (k : Settings) where
   unfolding feed after
   feed_cons j b l f e = ap (λ (g : Fed). after g l) e
 
-  within_cons : (room : ℕ) → 80 ≤ room → (j : Journal) (b : ℕ) (l : List ℕ) (f : Fed) → byte k j b ≡ f → within k room j (b ∷ l) ≡ suc (within k (room - length f.put) f.journal l)
+  within_cons : (room : ℕ) → 80 ≤ room → (j : Journal) (b : ℕ) (l : List ℕ) (f : Fed) → byte k j b ≡ f
+      → within k room j (b ∷ l) ≡ suc (within k (room - length f.put) f.journal l)
   unfolding within
-  within_cons room h j b l f e = rw (le-leb 80 room h) (ap (λ (g : Fed). suc (within k (room - length g.put) g.journal l)) e)
+  within_cons room h j b l f e =
+      rw (le-leb 80 room h) (ap (λ (g : Fed). suc (within k (room - length g.put) g.journal l)) e)
 
-  within_quiet : (room : ℕ) → 80 ≤ room → (j j' : Journal) (b : ℕ) (l : List ℕ) → byte k j b ≡ record { journal = j'; put = [] } → within k room j (b ∷ l) ≡ suc (within k room j' l)
-  within_quiet room h j j' b l e = within_cons room h j b l (record { journal = j'; put = [] }) e ∙ ap (λ (r : ℕ). suc (within k r j' l)) (sub-zero room)
+  within_quiet : (room : ℕ) → 80 ≤ room → (j j' : Journal) (b : ℕ) (l : List ℕ)
+      → byte k j b ≡ record { journal = j'; put = [] } → within k room j (b ∷ l) ≡ suc (within k room j' l)
+  within_quiet room h j j' b l e =
+      within_cons room h j b l (record { journal = j'; put = [] }) e
+      ∙ ap (λ (r : ℕ). suc (within k r j' l)) (sub-zero room)
 
   -- where there is no room for a line, no byte is taken
   pub within_full : (room : ℕ) → room < 80 → (j : Journal) (l : List ℕ) → within k room j l ≡ 0
@@ -97,39 +103,63 @@ module _ (k : Settings) where
 
   -- ---- a line that is not ended
 
-  pub feed_part : (j : Journal) (n : ℕ) → j.left ≡ suc n → (l : List ℕ) → has_newline l ≡ false → feed k j l ≡ record { journal = keeping j (keeps j.held l); put = [] }
+  pub feed_part : (j : Journal) (n : ℕ) → j.left ≡ suc n → (l : List ℕ) → has_newline l ≡ false
+      → feed k j l ≡ record { journal = keeping j (keeps j.held l); put = [] }
   unfolding feed has_newline keeps after
   feed_part j n e [] q = refl
   feed_part j n e (b ∷ l) q =
       let o = other b l q in
       feed_cons j b l (holding j b) (byte_other j n b e o.0) ∙ feed_part (holding j b).journal n e l o.1 ∙ rw o.0
 
-  pub within_part : (j : Journal) (n : ℕ) → j.left ≡ suc n → (room : ℕ) → 80 ≤ room → (l : List ℕ) → has_newline l ≡ false → within k room j l ≡ length l
+  pub within_part : (j : Journal) (n : ℕ) → j.left ≡ suc n → (room : ℕ) → 80 ≤ room → (l : List ℕ)
+      → has_newline l ≡ false → within k room j l ≡ length l
   unfolding within
   within_part j n e room h [] q = refl
   within_part j n e room h (b ∷ l) q =
       let o = other b l q in
-      within_quiet room h j (holding j b).journal b l (byte_other j n b e o.0) ∙ ap suc (within_part (holding j b).journal n e room h l o.1)
+      within_quiet room h j (holding j b).journal b l (byte_other j n b e o.0)
+      ∙ ap suc (within_part (holding j b).journal n e room h l o.1)
 
   -- ---- a line that is
 
-  pub feed_line : (j : Journal) (n : ℕ) → j.left ≡ suc n → (l : List ℕ) → has_newline l ≡ true → feed k j (take (up_to_newline l) l) ≡ ended k (keeping j (keeps j.held l)) n
+  pub feed_line : (j : Journal) (n : ℕ) → j.left ≡ suc n → (l : List ℕ) → has_newline l ≡ true
+      → feed k j (take (up_to_newline l) l) ≡ ended k (keeping j (keeps j.held l)) n
   unfolding feed has_newline keeps up_to_newline after
   feed_line j n e [] q = absurd (false≢true q)
   feed_line j n e (b ∷ l) q = go (eqb b 10) refl (λ j' e' q'. feed_line j' n e' l q')
     where
-      go : (c : Bool) → eqb b 10 ≡ c → ((j' : Journal) → j'.left ≡ suc n → has_newline l ≡ true → feed k j' (take (up_to_newline l) l) ≡ ended k (keeping j' (keeps j'.held l)) n) → feed k j (take (up_to_newline (b ∷ l)) (b ∷ l)) ≡ ended k (keeping j (keeps j.held (b ∷ l))) n
-      go true w below = rw w (feed_cons j b [] (ended k j n) (byte_newline j n b e w) ∙ ap (λ (r : List ℕ). record { journal = (ended k j n).journal; put = r }) (append-nil (ended k j n).put))
-      go false w below = rw w (feed_cons j b (take (up_to_newline l) l) (holding j b) (byte_other j n b e w) ∙ below (holding j b).journal e (later b l w q))
+      go : (c : Bool) → eqb b 10 ≡ c
+          →
+          ((j' : Journal) → j'.left ≡ suc n → has_newline l ≡ true → feed k j' (take (up_to_newline l) l)
+          ≡ ended k (keeping j' (keeps j'.held l)) n)
+          → feed k j (take (up_to_newline (b ∷ l)) (b ∷ l)) ≡ ended k (keeping j (keeps j.held (b ∷ l))) n
+      go true w below =
+          rw w
+          (feed_cons j b [] (ended k j n) (byte_newline j n b e w)
+          ∙ ap (λ (r : List ℕ). record { journal = (ended k j n).journal; put = r }) (append-nil (ended k j n).put))
+      go false w below =
+          rw w
+          (feed_cons j b (take (up_to_newline l) l) (holding j b) (byte_other j n b e w)
+          ∙ below (holding j b).journal e (later b l w q))
 
-  pub within_line : (j : Journal) (n : ℕ) → j.left ≡ suc n → (room : ℕ) → 80 ≤ room → (l : List ℕ) → has_newline l ≡ true → (let f = ended k (keeping j (keeps j.held l)) n in within k room j l ≡ up_to_newline l + within k (room - length f.put) f.journal (drop (up_to_newline l) l))
+  pub within_line : (j : Journal) (n : ℕ) → j.left ≡ suc n → (room : ℕ) → 80 ≤ room → (l : List ℕ)
+      → has_newline l ≡ true
+      →
+      (let f = ended k (keeping j (keeps j.held l)) n in within k room j l
+      ≡ up_to_newline l + within k (room - length f.put) f.journal (drop (up_to_newline l) l))
   unfolding has_newline keeps up_to_newline
   within_line j n e room h [] q = absurd (false≢true q)
   within_line j n e room h (b ∷ l) q = go (eqb b 10) refl (λ j' e' q'. within_line j' n e' room h l q')
     where
       On : Journal → List ℕ → Type 0
-      On j' m = (let f = ended k (keeping j' (keeps j'.held m)) n in within k room j' m ≡ up_to_newline m + within k (room - length f.put) f.journal (drop (up_to_newline m) m))
+      On j' m =
+          (let f = ended k (keeping j' (keeps j'.held m)) n in within k room j' m
+          ≡ up_to_newline m + within k (room - length f.put) f.journal (drop (up_to_newline m) m))
 
-      go : (c : Bool) → eqb b 10 ≡ c → ((j' : Journal) → j'.left ≡ suc n → has_newline l ≡ true → On j' l) → On j (b ∷ l)
+      go : (c : Bool) → eqb b 10 ≡ c → ((j' : Journal) → j'.left ≡ suc n → has_newline l ≡ true → On j' l)
+          → On j (b ∷ l)
       go true w below = rw w (within_cons room h j b l (ended k j n) (byte_newline j n b e w) ∙ omega arith)
-      go false w below = rw w (within_quiet room h j (holding j b).journal b l (byte_other j n b e w) ∙ ap suc (below (holding j b).journal e (later b l w q)) ∙ omega arith)
+      go false w below =
+          rw w
+          (within_quiet room h j (holding j b).journal b l (byte_other j n b e w)
+          ∙ ap suc (below (holding j b).journal e (later b l w q)) ∙ omega arith)

@@ -1,83 +1,106 @@
--- The bytes of a line, as they come: the loop of `gather`. Assumes nothing.
-use mathlib.Core.Path.{◌≡◌, refl, ap, sym, ◌∙◌, subst}
-use mathlib.Core.Bool.{true, false}
-use mathlib.Core.List.{List, [], ◌∷◌, ◌++◌}
-use Prim.Native.Nat.{ℕ, zero, suc, ◌+◌, ◌≤◌, ◌<◌}
+-- The bytes of a line, as they come. Assumes nothing.
+use mathlib.Core.Path.{◌≡◌, refl, ap, sym, ◌∙◌}
+use mathlib.Core.Bool.{Bool, true, false}
+use mathlib.Core.List.{List, [], ◌∷◌, ◌++◌, append-nil, append_assoc}
+use Prim.Native.Nat.{ℕ, zero, suc, ◌+◌, ◌-◌, ◌≤◌, ◌<◌}
 use native.Mathlib.Omega.{arith}
-use borrow.Author.Tests.{lt-ltb, le-ltb, eq-eqb, ne_eqb}
-use lib.Dec.{eqb}
-use lib.ListN.{length, take, drop, get_or, set, drop_of_length-le, length-set}
-use lib.Seq.{drop-cons, length-take-le, take-suc-set}
-use Rattle.journal_lines.specs.declared.Gathered.{Gathered}
+use borrow.Author.Tests.{ltb-true, ltb-false}
+use lib.Dec.{eqb, ltb}
+use lib.ListN.{length, take, length-append}
+use lib.Seq.{take-nil, take_all}
+use Rattle.std.specs.Prelude.{Some, None, cond, position}
+use Rattle.std.specs.List.{position_or_len}
 use Rattle.journal_lines.specs.Pieces.{hold}
 use Rattle.journal_lines.specs.Parts.{Gathers, has_newline, keeps, up_to_newline}
 
--- ---- what is held, after one more byte
+abbrev is_newline : ℕ → Bool
+is_newline b = eqb b 10
 
-hold_set : (held : List ℕ) (n b : ℕ) → length held ≡ 80 → n < 80 → take (n + 1) (set held n b) ≡ hold (take n held) b
-hold_set held n b e h =
-    let s : n + 1 ≡ suc n = omega arith in
-    rw (length-take-le n held (omega arith), lt-ltb n 80 h, s) (take-suc-set held n b (omega arith))
+-- where the first newline is, or the end
+abbrev at : List ℕ → ℕ
+at l = position_or_len is_newline l
 
-hold_full : (held : List ℕ) (n b : ℕ) → length held ≡ 80 → n ≤ 80 → 80 ≤ n → take n held ≡ hold (take n held) b
-hold_full held n b e h g = rw (length-take-le n held (omega arith), le-ltb n 80 g)
+first : (b : ℕ) (l : List ℕ) → is_newline b ≡ true → at (b ∷ l) ≡ 0
+first b l e = rw e
 
--- ---- the loop: what stands where `took` bytes were taken
+later : (b : ℕ) (l : List ℕ) → is_newline b ≡ false → at (b ∷ l) ≡ suc (at l)
+later b l e = rw e (omega arith)
 
-pub record Gathering (was piece held : List ℕ) (n took : ℕ) : Type 0 where
-  pub long : length held ≡ 80
-  pub few : n ≤ 80
-  pub keeps : keeps was piece ≡ keeps (take n held) (drop took piece)
-  pub taken : up_to_newline piece ≡ took + up_to_newline (drop took piece)
-  pub newline : has_newline piece ≡ has_newline (drop took piece)
+-- there is one
+record Ended (l : List ℕ) : Type 0 where
+  there : has_newline l ≡ true
+  many : up_to_newline l ≡ suc (at l)
 
-pub gather_begins : (held piece : List ℕ) (n : ℕ) → length held ≡ 80 → n ≤ 80 → Gathering (take n held) piece held n 0
-gather_begins held piece n e h = record { long = e; few = h; keeps = refl; taken = omega arith; newline = refl }
+ended : (l : List ℕ) → at l < length l → Ended l
+unfolding has_newline up_to_newline
+ended [] h = absurd (omega arith)
+ended (b ∷ l) h = go (is_newline b) refl (ended l)
+  where
+    go : (c : Bool) → is_newline b ≡ c → (at l < length l → Ended l) → Ended (b ∷ l)
+    go true e below = record { there = rw e; many = rw e }
+    go false e below =
+        let r = below (let q = later b l e in omega arith) in
+        record { there = rw e r.there; many = rw e (omega (arith, r.many)) }
 
-module _ (was piece held : List ℕ) (n took : ℕ) (i : took < length piece) (k : Gathering was piece held n took) where
-  abbrev next : ℕ
-  next = get_or piece took 0
+-- there is none
+record Unended (l : List ℕ) : Type 0 where
+  none : has_newline l ≡ false
+  all : up_to_newline l ≡ length l
+  end : at l ≡ length l
 
-  gather_turns : (held' : List ℕ) (n' : ℕ) → (next ≡ 10 → ⊥) → length held' ≡ 80 → n' ≤ 80 → take n' held' ≡ hold (take n held) next → Gathering was piece held' n' (took + 1)
-  unfolding keeps up_to_newline has_newline
-  gather_turns held' n' ne e h v =
-      let d : drop took piece ≡ next ∷ drop (suc took) piece = drop-cons piece took 0 i in
-      let q : eqb next 10 ≡ false = ne_eqb next 10 ne in
-      let s : took + 1 ≡ suc took = omega arith in
-      record {
-        long = e;
-        few = h;
-        keeps = k.keeps ∙ rw (d, q, s, v);
-        taken = k.taken ∙ rw (d, q, s) (omega arith);
-        newline = k.newline ∙ rw (d, q, s);
-      }
+unended : (l : List ℕ) → length l ≤ at l → Unended l
+unfolding has_newline up_to_newline
+unended [] h = record { none = refl; all = refl; end = refl }
+unended (b ∷ l) h = go (is_newline b) refl (unended l)
+  where
+    go : (c : Bool) → is_newline b ≡ c → (length l ≤ at l → Unended l) → Unended (b ∷ l)
+    go true e below = absurd (let q = first b l e in omega arith)
+    go false e below =
+        let r = below (let q = later b l e in omega arith) in
+        record { none = rw e r.none; all = rw e (ap suc r.all); end = rw (later b l e) (ap suc r.end) }
 
-  -- another byte, and there is room for it
-  pub gather_stores : (next ≡ 10 → ⊥) → n < 80 → Gathering was piece (set held n next) (n + 1) (took + 1)
-  gather_stores ne h = gather_turns (set held n next) (n + 1) ne (length-set held n next ∙ k.long) (omega arith) (hold_set held n next k.long h)
+-- what is held: as many of the bytes before the newline as there is room for
+keeps_first : (h l : List ℕ) → keeps h l ≡ h ++ take (80 - length h) (take (at l) l)
+unfolding keeps
+keeps_first h [] = rw take-nil (sym (append-nil h))
+keeps_first h (b ∷ l) = go (is_newline b) refl (keeps_first (hold h b) l) (ltb (length h) 80) refl
+  where
+    go : (c : Bool) → is_newline b ≡ c → keeps (hold h b) l ≡ hold h b ++ take (80 - length (hold h b)) (take (at l) l)
+        → (d : Bool) → ltb (length h) 80 ≡ d → keeps h (b ∷ l) ≡ h ++ take (80 - length h) (take (at (b ∷ l)) (b ∷ l))
+    go true e below d f = rw (e, take-nil) (sym (append-nil h))
+    go false e below true f =
+        let s : 1 + at l ≡ suc (at l) = omega arith in
+        let n : 80 - length h ≡ suc (80 - length (h ++ (b ∷ []))) =
+        omega (arith, length-append h (b ∷ []), ltb-true (length h) 80 f) in
+        rw (e, s, n) (below ∙ rw f (append_assoc h (b ∷ []) (take (80 - length (h ++ (b ∷ []))) (take (at l) l))))
+    go false e below false f =
+        let s : 1 + at l ≡ suc (at l) = omega arith in
+        let n : 80 - length h ≡ 0 = omega (arith, ltb-false (length h) 80 f) in
+        rw (e, s, n) (below ∙ rw (f, n))
 
-  -- another byte, and there is none
-  pub gather_passes : (next ≡ 10 → ⊥) → 80 ≤ n → Gathering was piece held n (took + 1)
-  gather_passes ne h = gather_turns held n ne k.long k.few (hold_full held n next k.long k.few h)
+-- ---- what is gathered
 
-  -- a newline
-  pub gather_newline : (left : ℕ) → (left ≡ 0 → ⊥) → next ≡ 10 → Gathers left was piece (record { held = held; held_len = n; took = took + 1; ended = true })
-  unfolding keeps up_to_newline has_newline
-  gather_newline zero z e = absurd (z refl)
-  gather_newline (suc m) z e =
-      let d : drop took piece ≡ next ∷ drop (suc took) piece = drop-cons piece took 0 i in
-      let q : eqb next 10 ≡ true = eq-eqb next 10 e in
-      record { held = sym (k.keeps ∙ rw (d, q)); long = k.long; few = k.few; took = sym (k.taken ∙ rw (d, q)); ended = sym (k.newline ∙ rw (d, q)) }
+pub gather_line : (left : ℕ) (h l h' : List ℕ) (n : ℕ) → (left ≡ 0 → ⊥) → position is_newline l ≡ Some n
+    → h' ≡ h ++ take (80 - length h) (take n l) → Gathers left h l h' (Some (n + 1))
+gather_line zero h l h' n z e k = absurd (z refl)
+gather_line (suc m) h l h' n z e k = go (ltb (at l) (length l)) refl e
+  where
+    go : (c : Bool) → ltb (at l) (length l) ≡ c → cond c (Some (at l)) None ≡ Some n
+        → Gathers (suc m) h l h' (Some (n + 1))
+    go false f q = cc
+    go true f q =
+        let i : n ≡ at l = cc in
+        let d = ended l (ltb-true (at l) (length l) f) in
+        let s : n + 1 ≡ suc (at l) = omega arith in
+        record { held = k ∙ rw i (sym (keeps_first h l)); took = rw (d.there, d.many, s) }
 
--- the end of the piece
-pub gather_ends : (was piece held : List ℕ) (n took : ℕ) → length piece ≤ took → Gathering was piece held n took → (left : ℕ) → (left ≡ 0 → ⊥) → Gathers left was piece (record { held = held; held_len = n; took = took; ended = false })
-unfolding keeps up_to_newline has_newline
-gather_ends was piece held n took h k zero z = absurd (z refl)
-gather_ends was piece held n took h k (suc m) z =
-    let d : drop took piece ≡ [] = drop_of_length-le piece {i = took} h in
-    record { held = sym (k.keeps ∙ rw d); long = k.long; few = k.few; took = sym (k.taken ∙ rw d (omega arith)); ended = sym (k.newline ∙ rw d) }
-
--- no line may be read any more
-pub gather_spent : (left : ℕ) → left ≡ 0 → (held piece : List ℕ) (n : ℕ) → length held ≡ 80 → n ≤ 80 → Gathers left (take n held) piece (record { held = held; held_len = n; took = length piece; ended = false })
-gather_spent zero z held piece n e h = record { held = refl; long = e; few = h; took = refl; ended = refl }
-gather_spent (suc m) z held piece n e h = absurd (omega arith)
+pub gather_part : (left : ℕ) (h l h' : List ℕ) → (left ≡ 0 → ⊥) → position is_newline l ≡ None
+    → h' ≡ h ++ take (80 - length h) l → Gathers left h l h' None
+gather_part zero h l h' z e k = absurd (z refl)
+gather_part (suc m) h l h' z e k = go (ltb (at l) (length l)) refl e
+  where
+    go : (c : Bool) → ltb (at l) (length l) ≡ c → cond c (Some (at l)) None ≡ None → Gathers (suc m) h l h' None
+    go true f q = cc
+    go false f q =
+        let d = unended l (ltb-false (at l) (length l) f) in
+        record { held = k ∙ sym (rw (keeps_first h l, take_all (at l) l (omega (arith, d.end)))); took = rw d.none }

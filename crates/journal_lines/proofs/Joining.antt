@@ -1,23 +1,22 @@
 -- However an input is cut into pieces, what is written is the output of the whole input. Assumes nothing.
-use mathlib.Core.Path.{◌≡◌, refl, ap, sym, ◌∙◌, subst}
-use mathlib.Core.Bool.{Bool, true, false, cond}
+use mathlib.Core.Path.{◌≡◌, refl, ap, sym, ◌∙◌}
+use mathlib.Core.Bool.{Bool, true, false}
 use mathlib.Core.List.{List, [], ◌∷◌, ◌++◌, append_assoc, append-nil}
 use mathlib.Core.Option.{Option, none, some}
 use Prim.Native.Nat.{ℕ, zero, suc, ◌≤◌, ◌<◌}
 use native.Mathlib.Omega.{arith}
-use lib.Dec.{eqb, leb, ltb}
+use lib.Dec.{eqb, ltb}
 use lib.ListN.{length, take, length-append}
 use lib.Seq.{take_all, length-take-le, take-append-le}
 use borrow.Author.Tests.{ltb-true, ltb-false, lt-ltb}
 use Rattle.ranges.specs.Settings.{Settings}
 use Rattle.station_model.specs.Station.{Station}
-use Rattle.line_in.specs.declared.Entry.{Entry}
-use Rattle.line_in.specs.declared.Entry.TheVariants.{Bad}
+use Rattle.std.specs.Prelude.{None}
 use Rattle.line_in.specs.Form.{entry}
 use Rattle.line_out.specs.Shown.{line}
-use Rattle.journal_lines.specs.Journal.{Turn, answer, bad}
-use Rattle.journal_lines.specs.Whole.{Row, before, rows, said, answers, most, output}
-use Rattle.journal_lines.specs.Pieces.{Journal, Fed, start, hold, byte, ended, holding, feed, end, written, joined, Joins}
+use Rattle.journal_lines.specs.Journal.{answer, bad}
+use Rattle.journal_lines.specs.Whole.{Row, before, rows, answers, most, output}
+use Rattle.journal_lines.specs.Pieces.{Journal, Fed, start, hold, byte, feed, end, written, joined, Joins}
 
 -- ---- the lines of an input
 
@@ -30,7 +29,8 @@ open_none : Open []
 unfolding Open
 open_none = tt
 
-rows_ended : (p : List ℕ) → Open p → (b : ℕ) → eqb b 10 ≡ true → (l : List ℕ) → rows (p ++ b ∷ l) ≡ record { bytes = p; ended = true } ∷ rows l
+rows_ended : (p : List ℕ) → Open p → (b : ℕ) → eqb b 10 ≡ true → (l : List ℕ)
+    → rows (p ++ b ∷ l) ≡ record { bytes = p; ended = true } ∷ rows l
 unfolding rows Open
 rows_ended [] o b e l = rw e
 rows_ended (x ∷ p) o b e l = rw o.0 (ap (before x) (rows_ended p o.1 b e l))
@@ -63,7 +63,7 @@ hold_take p b = go (ltb (length p) 80) refl
     go false e = hold_long p b (ltb-false (length p) 80 e)
 
 -- a longer line is bad, as what is held of it is
-long_bad : (l : List ℕ) → 79 < length l → entry l ≡ Bad
+long_bad : (l : List ℕ) → 79 < length l → entry l ≡ None
 unfolding entry
 long_bad l h = rw (lt-ltb 79 (length l) h)
 
@@ -79,12 +79,20 @@ entry_take p = go (ltb (length p) 80) refl
 
 -- ---- the pieces, joined
 
-pub feed_append : (k : Settings) (j : Journal) (a b : List ℕ) → feed k j (a ++ b) ≡ record { journal = (feed k (feed k j a).journal b).journal; put = (feed k j a).put ++ (feed k (feed k j a).journal b).put }
+pub feed_append : (k : Settings) (j : Journal) (a b : List ℕ)
+    → feed k j
+    (a ++ b) ≡ record {
+      journal = (feed k (feed k j a).journal b).journal;
+      put = (feed k j a).put
+          ++ (feed k (feed k j a).journal b).put;
+    }
 unfolding feed
 feed_append k j [] b = refl
 feed_append k j (x ∷ a) b =
     let h = feed_append k (byte k j x).journal a b in
-    rw h (ap (λ (l : List ℕ). record { journal = (feed k (feed k (byte k j x).journal a).journal b).journal; put = l }) (sym (append_assoc (byte k j x).put (feed k (byte k j x).journal a).put _)))
+    rw h
+    (ap (λ (l : List ℕ). record { journal = (feed k (feed k (byte k j x).journal a).journal b).journal; put = l })
+    (sym (append_assoc (byte k j x).put (feed k (byte k j x).journal a).put _)))
 
 take-nil : (n : ℕ) → take {A = Row} n [] ≡ []
 take-nil zero = refl
@@ -108,7 +116,7 @@ module _ (k : Settings) where
   spent s [] = refl
   spent s (b ∷ l) = spent s l
 
-  pub bad_said : (s : Option Station) → answer k s Bad ≡ bad s
+  pub bad_said : (s : Option Station) → answer k s None ≡ bad s
   bad_said none = refl
   bad_said (some s) = refl
 
@@ -122,7 +130,8 @@ module _ (k : Settings) where
   at_end n s (x ∷ p) o = rw (append-nil p, rows_open x p o, bad_said s, take-nil n) (sym (append-nil _))
 
   -- one byte
-  turned : (j : Journal) (b : ℕ) (l : List ℕ) (f : Fed) → byte k j b ≡ f → all_of j (b ∷ l) ≡ f.put ++ all_of f.journal l
+  turned : (j : Journal) (b : ℕ) (l : List ℕ) (f : Fed) → byte k j b ≡ f
+      → all_of j (b ∷ l) ≡ f.put ++ all_of f.journal l
   unfolding feed
   turned j b l f e =
       append_assoc (byte k j b).put (feed k (byte k j b).journal l).put (end (feed k (byte k j b).journal l).journal)
@@ -133,19 +142,24 @@ module _ (k : Settings) where
   unfolding answers
   at_newline n s p o b e l below =
       let t = answer k s (entry p) in
-      turned (record { station = s; held = take 80 p; left = suc n }) b l (record { journal = record { station = t.station; held = []; left = n }; put = line t.shown }) (rw (e, entry_take p))
+      turned (record { station = s; held = take 80 p; left = suc n }) b l
+      (record { journal = record { station = t.station; held = []; left = n }; put = line t.shown })
+      (rw (e, entry_take p))
       ∙ ap (λ (r : List ℕ). line t.shown ++ r) (below t.station)
       ∙ sym (ap (λ (w : List Row). answers k s (take (suc n) w)) (rows_ended p o b e l))
 
   at_byte : (n : ℕ) (s : Option Station) (p : List ℕ) (b : ℕ) → eqb b 10 ≡ false → (l : List ℕ)
       → Reads (suc n) s (p ++ (b ∷ [])) l → Reads (suc n) s p (b ∷ l)
   at_byte n s p b e l below =
-      turned (record { station = s; held = take 80 p; left = suc n }) b l (record { journal = record { station = s; held = take 80 (p ++ (b ∷ [])); left = suc n }; put = [] }) (rw (e, hold_take p b))
+      turned (record { station = s; held = take 80 p; left = suc n }) b l
+      (record { journal = record { station = s; held = take 80 (p ++ (b ∷ [])); left = suc n }; put = [] })
+      (rw (e, hold_take p b))
       ∙ below
       ∙ ap (λ (q : List ℕ). answers k s (take (suc n) (rows q))) (append_assoc p (b ∷ []) l)
 
   -- after a newline
-  reads_on : (l : List ℕ) → ((m : ℕ) (t : Option Station) → Reads (suc m) t [] l) → (n : ℕ) (s : Option Station) → Reads n s [] l
+  reads_on : (l : List ℕ) → ((m : ℕ) (t : Option Station) → Reads (suc m) t [] l) → (n : ℕ) (s : Option Station)
+      → Reads n s [] l
   unfolding answers
   reads_on l below zero s = spent s l
   reads_on l below (suc n) s = below n s
@@ -154,7 +168,8 @@ module _ (k : Settings) where
   reads [] n s p o = at_end n s p o
   reads (b ∷ l) n s p o = go (λ m t q r. reads l m t q r) (eqb b 10) refl
     where
-      go : ((m : ℕ) (t : Option Station) (q : List ℕ) → Open q → Reads (suc m) t q l) → (c : Bool) → eqb b 10 ≡ c → Reads (suc n) s p (b ∷ l)
+      go : ((m : ℕ) (t : Option Station) (q : List ℕ) → Open q → Reads (suc m) t q l) → (c : Bool) → eqb b 10 ≡ c
+          → Reads (suc n) s p (b ∷ l)
       go below true e = at_newline n s p o b e l (reads_on l (λ m t. below m t [] open_none) n)
       go below false e = at_byte n s p b e l (below n s (p ++ (b ∷ [])) (open_more p b o e))
 

@@ -4,6 +4,5 @@ pub mod Answering
 pub mod Feeding
 pub mod Advancing
 pub mod Going
-pub mod Ending
 pub mod Running
 pub mod Examples

@@ -1,18 +1,20 @@
 -- One line of a journal and its answer (document 01, "Journal program"). Definitions only.
-use Rattle.std.specs.Prelude.{Bool, cond, ℕ, leb, length}
+use Rattle.std.specs.Prelude.{Bool, cond, Some, None, ℕ, leb, length}
+use Rattle.std.specs.Prelude as Prelude
 use Rattle.std.proofs.Math.Option.{Option, none, some}
 use Prim.Native.Char.{code}
 use Rattle.std.specs.Float.{binary32}
 use Rattle.std.specs.Float.Ieee.{to_bits}
 use Rattle.ranges.specs.Settings.{Settings}
-use Rattle.bank.specs.Parts.{widest}
+use Rattle.bank_model.specs.Departures.{widest}
 use Rattle.station_model.specs.declared.Event.{Event}
 use Rattle.station_model.specs.declared.Event.TheVariants.{Mark, Gap, Finish, Seed, Hint, Clear, Switch}
+use Rattle.refusals.specs.declared.Refusal.TheVariants.{BadLine, TooWide}
 use Rattle.station_model.specs.declared.Code.{Code}
 use Rattle.station_model.specs.declared.Code.TheVariants.{Done, Refused}
 use Rattle.station_model.specs.Station.{Station, Outcome, fresh, step}
 use Rattle.line_in.specs.declared.Entry.{Entry}
-use Rattle.line_in.specs.declared.Entry.TheVariants.{Watch, Call, Bad}
+use Rattle.line_in.specs.declared.Entry.TheVariants.{Watch, Call}
 use Rattle.line_out.specs.declared.Shown.{Shown}
 
 -- the letters of document 01
@@ -25,7 +27,8 @@ letter (Hint r) = code "H"
 letter Clear = code "C"
 letter Switch = code "X"
 
--- "the letter .., code, dit and dah centroid .. of f32 bits, primary serial, challenger count"; "zeros stand for the station until there is one"
+-- "the letter .., code, dit and dah centroid .. of f32 bits, primary serial, challenger count"; "zeros stand for the
+-- station until there is one"
 abbrev pub shown : ℕ → Code → Option Station → Shown
 shown l c none = record { letter = l; code = c; dit = 0; dah = 0; serial = 0; challengers = 0 }
 shown l c (some s) = record {
@@ -45,23 +48,25 @@ pub record Turn : Type 0 where
 abbrev pub turn : ℕ → Code → Option Station → Turn
 turn l c s = record { station = s; shown = shown l c s }
 
--- "A bad line is answered 12 and passed over": `?`, R12
+-- "A bad line is answered 12 and passed over": `?` and the refusal that has this number
 abbrev pub bad : Option Station → Turn
-bad s = turn (code "?") (Refused 12) s
+bad s = turn (code "?") (Refused BadLine) s
 
 -- "`W`, width, switching"; "A `W` refused by 3 keeps its letter and is not a good one"
 abbrev pub opened : ℕ → Bool → Turn
-opened width switching = cond (leb width widest) (turn (code "W") Done (some (fresh width switching))) (turn (code "W") (Refused 3) none)
+opened width switching =
+    cond (leb width widest) (turn (code "W") Done (some (fresh width switching)))
+    (turn (code "W") (Refused TooWide) none)
 
 -- an event's answer is the station's
 abbrev pub called : Event → Outcome → Turn
 called e o = turn (letter e) o.answer.code (some o.station)
 
 -- "before a good `W` only `W` is good, later `W` lines are bad"
-abbrev pub answer : Settings → Option Station → Entry → Turn
-answer k none (Watch width switching) = opened width switching
-answer k none (Call e) = bad none
-answer k none Bad = bad none
-answer k (some s) (Watch width switching) = bad (some s)
-answer k (some s) (Call e) = called e (step k s e)
-answer k (some s) Bad = bad (some s)
+abbrev pub answer : Settings → Option Station → Prelude.Option Entry → Turn
+answer k none (Some (Watch width switching)) = opened width switching
+answer k none (Some (Call e)) = bad none
+answer k none None = bad none
+answer k (some s) (Some (Watch width switching)) = bad (some s)
+answer k (some s) (Some (Call e)) = called e (step k s e)
+answer k (some s) None = bad (some s)

@@ -1,17 +1,17 @@
 -- What the parts of the code say. Definitions only.
-use Rattle.std.specs.Prelude.{◌≡◌, Bool, true, false, cond, List, [], ◌∷◌, ◌++◌, ℕ, zero, suc, ◌≤◌, eqb, length, take, drop}
-use Rattle.std.proofs.Math.Option.{Option, none, some}
+use Rattle.std.specs.Prelude.{◌≡◌, Bool, true, false, cond, Option, Some, None, List, [], ◌∷◌, ◌++◌, ℕ, zero, suc, ◌≤◌}
+use Rattle.std.specs.Prelude.{eqb, length, take, drop}
+use Rattle.std.proofs.Math.Option.{none, some}
+use Rattle.std.proofs.Math.Option as Math
 use Rattle.station.specs.declared.Station.{Station}
 use Rattle.station.specs.View.{view}
 use Rattle.station.specs.Parts.{Steady}
 use Rattle.station_model.specs.Station as Model
 use Rattle.ranges.specs.Settings.{standard}
-use Rattle.line_in.specs.declared.Entry.{Entry}
-use Rattle.line_in.specs.declared.Entry.TheVariants.{Watch, Call, Bad}
 use Rattle.journal_lines.specs.declared.Fed.{Fed}
-use Rattle.journal_lines.specs.declared.Gathered.{Gathered}
 use Rattle.journal_lines.specs.declared.Journal.{Journal}
-use Rattle.journal_lines.specs.declared.Turned.{Turned}
+use Rattle.line_out.specs.declared.Shown.{Shown}
+use Rattle.line_out.specs.Bytes.{contents}
 use Rattle.journal_lines.specs.Journal.{Turn}
 use Rattle.journal_lines.specs.Pieces.{hold, feed}
 use Rattle.journal_lines.specs.Pieces as Pieces
@@ -19,24 +19,24 @@ use Rattle.journal_lines.specs.Pieces as Pieces
 -- ---- the station of a journal
 
 -- where no `W` was good, there is none
-abbrev pub reading : Bool → Station → Option Model.Station
-reading begun s = cond begun (some (view s)) none
+abbrev pub reading : Option Station → Math.Option Model.Station
+reading None = none
+reading (Some s) = some (view s)
 
 -- where there is one, it is sound, and nothing is pending beside an unready primary
-abbrev pub Lives : Bool → Station → Type 0
-Lives begun s = begun ≡ true → Steady s
+abbrev pub Lives : Option Station → Type 0
+Lives None = Unit {0}
+Lives (Some s) = Steady s
 
--- a line is a call of the station
-abbrev pub calls : Bool → Entry → Bool
-calls begun (Watch width switching) = false
-calls begun (Call e) = begun
-calls begun Bad = false
+-- a line's answer, and the station after it, are as the definitions say
+pub record Answered (s : Option Station) (v : Shown) (t : Turn) : Type 0 where
+  pub station : reading s ≡ t.station
+  pub shown : v ≡ t.shown
+  pub lives : Lives s
 
--- a line's answer is as the definitions say
-pub record Answered (r : Turned) (t : Turn) : Type 0 where
-  pub station : reading r.begun r.station ≡ t.station
-  pub shown : r.shown ≡ t.shown
-  pub lives : Lives r.begun r.station
+-- the same, of a station that there is
+abbrev pub Called : Station → Shown → Turn → Type 0
+Called s = Answered (Some s)
 
 -- ---- the bytes of a piece up to its first newline
 
@@ -68,29 +68,25 @@ abbrev pub keeps_at : ℕ → List ℕ → List ℕ → List ℕ
 keeps_at zero h l = h
 keeps_at (suc n) h l = keeps h l
 
-pub record Gathers (left : ℕ) (was piece : List ℕ) (r : Gathered) : Type 0 where
-  pub held : take r.held_len r.held ≡ keeps_at left was piece
-  pub long : length r.held ≡ 80
-  pub few : r.held_len ≤ 80
-  pub took : r.took ≡ taken_at left piece
-  pub ended : r.ended ≡ newline_at left piece
+-- what is held after a piece, and how many of its bytes were taken, the newline with them, or none where that was not
+-- there and all were taken
+pub record Gathers (left : ℕ) (was piece is : List ℕ) (r : Option ℕ) : Type 0 where
+  pub held : is ≡ keeps_at left was piece
+  pub took : r ≡ cond (newline_at left piece) (Some (taken_at left piece)) None
 
 -- ---- a journal
 
--- "Places beyond a count .. are no part of a state"
 abbrev pub viewed : Journal → Pieces.Journal
-viewed j = record { station = reading j.begun j.station; held = take j.held_len j.held; left = j.left }
+viewed j = record { station = reading j.station; held = contents j.held; left = j.left }
 
 -- what every journal from the start on has
-pub record Goes (j : Journal) : Type 0 where
-  pub lives : Lives j.begun j.station
-  pub long : length j.held ≡ 80
-  pub few : j.held_len ≤ 80
+abbrev pub Goes : Journal → Type 0
+Goes j = Lives j.station
 
--- so many bytes of a piece were fed: the journal, and what was written at the front of the buffer
-pub record Feeds (j : Journal) (piece was is : List ℕ) (r : Fed) : Type 0 where
+-- so many bytes of a piece were fed: the journal after them, and what was written at the front of the buffer
+pub record Feeds (j : Journal) (piece was is : List ℕ) (j' : Journal) (r : Fed) : Type 0 where
   pub few : r.used ≤ length piece
-  pub journal : viewed r.journal ≡ (feed standard (viewed j) (take r.used piece)).journal
+  pub journal : viewed j' ≡ (feed standard (viewed j) (take r.used piece)).journal
   pub put : r.put ≡ length (feed standard (viewed j) (take r.used piece)).put
   pub out : is ≡ (feed standard (viewed j) (take r.used piece)).put ++ drop r.put was
-  pub goes : Goes r.journal
+  pub goes : Goes j'

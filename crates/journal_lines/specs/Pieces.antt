@@ -1,14 +1,16 @@
--- What the journal does with its input as it comes, in pieces of any size: what is carried over, and what is written for a piece. Definitions only.
+-- What the journal does with its input as it comes, in pieces of any size: what is carried over, and what is written
+-- for a piece. Definitions only.
 use Rattle.std.specs.Prelude.{◌≡◌, cond, List, [], ◌∷◌, ◌++◌, ℕ, zero, suc, ◌-◌, eqb, leb, ltb, length}
 use Rattle.std.proofs.Math.Option.{Option, none}
 use Rattle.ranges.specs.Settings.{Settings}
 use Rattle.station_model.specs.Station.{Station}
 use Rattle.line_in.specs.Form.{entry}
 use Rattle.line_out.specs.Shown.{line}
-use Rattle.journal_lines.specs.Journal.{Turn, answer, bad}
+use Rattle.journal_lines.specs.Journal.{answer, bad}
 use Rattle.journal_lines.specs.Whole.{most, output}
 
--- what is carried over: the station, if there is one; the bytes since the last newline; how many lines may still be read
+-- what is carried over: the station, if there is one; the bytes since the last newline; how many lines may still be
+-- read
 pub record Journal : Type 0 where
   pub station : Option Station
   pub held : List ℕ
@@ -17,7 +19,8 @@ pub record Journal : Type 0 where
 abbrev pub start : Journal
 start = record { station = none; held = []; left = most }
 
--- a byte more of the line: 80 are kept at most, since a line that has so many before its newline is bad whatever follows
+-- a byte more of the line: 80 are kept at most, since a line that has so many before its newline is bad whatever
+-- follows
 abbrev pub hold : List ℕ → ℕ → List ℕ
 hold l b = cond (ltb (length l) 80) (l ++ (b ∷ [])) l
 
@@ -47,7 +50,8 @@ byte k j b = read k j j.left b
 -- the bytes of a piece, one after the other
 unfoldable pub feed : Settings → Journal → List ℕ → Fed
 feed k j [] = record { journal = j; put = [] }
-feed k j (b ∷ l) = let r = feed k (byte k j b).journal l in record { journal = r.journal; put = (byte k j b).put ++ r.put }
+feed k j (b ∷ l) =
+    let r = feed k (byte k j b).journal l in record { journal = r.journal; put = (byte k j b).put ++ r.put }
 
 -- the end of the input: what is held, if anything is, is a last line without its newline
 abbrev pub finish : Journal → List ℕ → List ℕ
@@ -71,7 +75,8 @@ joined (p ∷ ps) = p ++ joined ps
 pub record Joins (k : Settings) : Type 0 where
   pub whole : (ps : List (List ℕ)) → written k start ps ≡ output k (joined ps)
 
--- how many bytes of a piece are taken where the output has room for so many: a byte is taken while there is room for a line, 80
+-- how many bytes of a piece are taken where the output has room for so many: a byte is taken while there is room for a
+-- line, 80
 unfoldable pub within : Settings → ℕ → Journal → List ℕ → ℕ
 within k room j [] = 0
 within k room j (b ∷ l) = cond (leb 80 room) (suc (within k (room - length (byte k j b).put) (byte k j b).journal l)) 0

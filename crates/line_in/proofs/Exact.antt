@@ -1,13 +1,13 @@
 -- The numbers of a line as f32. Assumes nothing.
 use mathlib.Core.Path.{◌≡◌, refl, sym, ap, ◌∙◌, subst}
 use mathlib.Core.Bool.{Bool, true, false}
-use Prim.Native.Nat.{ℕ, ◌+◌, ◌*◌, ◌^◌, ◌≤◌, ◌<◌}
+use Prim.Native.Nat.{ℕ, min, ◌+◌, ◌*◌, ◌^◌, ◌≤◌, ◌<◌}
 use native.Mathlib.Nat.{lt_of_lt_of_le, mul-one, mul_assoc, mul_comm, mul-pos}
 use native.Mathlib.Omega.{arith}
-use lib.Dec.{T, ltb, le→leb, lit<, lit≤}
+use lib.Dec.{ltb, lit<, lit≤}
 use lib.Pow.{pow_mono, shl_lt}
 use lib.IntN.{pos}
-use lib.Ieee.{Float, nan, inf, fin, binary32, up, down, size, round, of_int, of_bits, div, lt, in_float}
+use lib.Ieee.{Float, nan, inf, fin, binary32, up, down, size, round, of_int, of_bits, div, lt}
 use lib.Ieee.Fits.{down_pos}
 use lib.Ieee.Scale.{round_same}
 use lib.Ieee.Exact.{HasValue, round_exact}
@@ -23,6 +23,14 @@ capped_above n h = rw (lt-ltb 16777216 n h)
 
 pub capped_within : (n : ℕ) → n ≤ 16777216 → capped n ≡ n
 capped_within n h = rw (le-ltb 16777216 n h)
+
+-- the code has the least of the two
+pub least : (n : ℕ) → whole (min n 16777216) ≡ whole (capped n)
+least n = ap whole (go (ltb 16777216 n) refl)
+  where
+    go : (b : Bool) → ltb 16777216 n ≡ b → min n 16777216 ≡ capped n
+    go true e = let h : 16777216 < n = ltb-true 16777216 n e in rw (capped_above n h) (omega arith)
+    go false e = let h : n ≤ 16777216 = ltb-false 16777216 n e in rw (capped_within n h) (omega arith)
 
 pub ticks_above : (n : ℕ) → 16777216 < n → ticks n ≡ 16777218
 ticks_above n h = rw (lt-ltb 16777216 n h)
@@ -44,12 +52,6 @@ pub refused : of_bits binary32 0x4880_0001 ≡ sixty_fourths 16777218
 unfolding whole sixty_fourths size round of_int of_bits div
 refused = refl
 
--- ---- up to 16,777,216 a cast to f32 loses nothing
-
-pub fits_float : (n : ℕ) → n ≤ 16777216 → T (in_float binary32 (pos n))
-unfolding in_float
-fits_float n h = le→leb n 16777216 h
-
 -- ---- no number of a line is changed by rounding
 
 below_top : (n j : ℕ) → n < 2 ^ 24 → j ≤ 149 → n * 2 ^ j < 2 ^ 277
@@ -59,10 +61,12 @@ below_top n j h k =
 
 -- a fraction with a numerator below 2 ^ 24, over 1 and over 64
 over_one : (n : ℕ) → n < 2 ^ 24 → HasValue (round binary32 false n 1) false n 1
-over_one n h = round_exact binary32 false n 1 n 149 (lit< tt) h (below_top n 149 h (lit≤ tt)) (sym (mul-one (n * 2 ^ 149)))
+over_one n h =
+    round_exact binary32 false n 1 n 149 (lit< tt) h (below_top n 149 h (lit≤ tt)) (sym (mul-one (n * 2 ^ 149)))
 
 over_sixty_four : (n : ℕ) → n < 2 ^ 24 → HasValue (round binary32 false n 64) false n 64
-over_sixty_four n h = round_exact binary32 false n 64 n 143 (lit< tt) h (below_top n 143 h (lit≤ tt)) (sym (mul_assoc n (2 ^ 143) 64))
+over_sixty_four n h =
+    round_exact binary32 false n 64 n 143 (lit< tt) h (below_top n 143 h (lit≤ tt)) (sym (mul_assoc n (2 ^ 143) 64))
 
 -- the quotient of a whole number by 64.0 is rounded once
 quotient : (x : Float) (n : ℕ) → HasValue x false n 1 → div binary32 x (fin false 1 (pos 6)) ≡ round binary32 false n 64
@@ -81,7 +85,8 @@ record Kept (n : ℕ) : Type 0 where
 
 kept_below : (n : ℕ) → n < 2 ^ 24 → Kept n
 unfolding whole sixty_fourths size of_int
-kept_below n h = record { in_whole = over_one n h; in_parts = rw (quotient (whole n) n (over_one n h)) (over_sixty_four n h) }
+kept_below n h =
+    record { in_whole = over_one n h; in_parts = rw (quotient (whole n) n (over_one n h)) (over_sixty_four n h) }
 
 kept_most : Kept 16777216
 unfolding whole sixty_fourths size round of_int div

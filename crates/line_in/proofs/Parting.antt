@@ -5,10 +5,12 @@ use mathlib.Core.List.{List, [], ◌∷◌, ◌++◌}
 use mathlib.Core.Logic.{◌⊎◌, inl, inr}
 use Prim.Native.Nat.{ℕ, suc, ◌+◌, ◌-◌, ◌≤◌, ◌<◌}
 use native.Mathlib.Omega.{arith}
-use native.Mathlib.Numerals.{add-one}
-use lib.ListN.{length, take, drop, get_or, length-append, length-drop, drop_of_length-le}
-use lib.Seq.{drop-cons, take_all, take-nil, take-length, take-append_seam, drop-append-add}
-use borrow.Author.Tests.{eqb-true, eq-eqb, ne_eqb}
+use lib.ListN.{length, take, drop, length-append, length-drop}
+use lib.Seq.{take_all, take-length, take-append_seam, drop-append-add}
+use borrow.Author.Tests.{eqb-true, ltb-true, ltb-false}
+use Rattle.std.specs.Prelude.{Some, None, unwrap_or, cond, position, ltb}
+use Rattle.std.specs.List.{position_or_len}
+use Rattle.std.proofs.lemmas.List.Recursion.{is_position_or_len}
 use Rattle.line_in.specs.Fields.{is_tab, field, after_tab, fields}
 
 -- a line without a tab, and one with
@@ -23,7 +25,8 @@ pub record Parted (l : List ℕ) : Type 0 where
 
 further : (b : ℕ) (l : List ℕ) → is_tab b ≡ false → Lone l ⊎ Parted l → Lone (b ∷ l) ⊎ Parted (b ∷ l)
 unfolding field after_tab fields
-further b l e (inl p) = inl (record { all = rw e (ap (λ (x : List ℕ). b ∷ x) p.all); none = rw e p.none; one = rw (e, p.one) })
+further b l e (inl p) =
+    inl (record { all = rw e (ap (λ (x : List ℕ). b ∷ x) p.all); none = rw e p.none; one = rw (e, p.one) })
 further b l e (inr p) = inr (record { joined = rw e (ap (λ (x : List ℕ). b ∷ x) p.joined); more = rw (e, p.more) })
 
 here : (b : ℕ) (l : List ℕ) → is_tab b ≡ true → Parted (b ∷ l)
@@ -77,35 +80,47 @@ before_tab l = go (parting l)
 pub after_tab_law : (l : List ℕ) → Parted l → drop (length (field l) + 1) l ≡ after_tab l
 after_tab_law l p = ap (drop (length (field l) + 1)) p.joined ∙ drop-append-add (field l) (9 ∷ after_tab l) 1
 
--- ---- a search for the tab from the front: none before the place i
+-- ---- a search for the first tab
 
-pub record Scanned (l : List ℕ) (i : ℕ) : Type 0 where
-  pub within : i ≤ length l
-  pub counted : length (field l) ≡ i + length (field (drop i l))
-
-pub begin : (l : List ℕ) → Scanned l 0
-begin l = record { within = omega arith; counted = omega arith }
-
-pub passed : (l : List ℕ) (i : ℕ) → Scanned l i → i < length l → (get_or l i 0 ≡ 9 → ⊥) → Scanned l (i + 1)
+-- the length of the first field is where the first tab is, or the length of the line
+to_tab : (l : List ℕ) → length (field l) ≡ position_or_len is_tab l
 unfolding field
-passed l i s h n = record { within = omega arith; counted = s.counted ∙ rw (add-one, drop-cons l i 0, ne_eqb (get_or l i 0) 9 n) (omega arith) }
+to_tab l = is_position_or_len (λ (x : List ℕ). length (field x)) is_tab refl (λ b x. step b x (is_tab b)) l
+  where
+    step : (b : ℕ) (x : List ℕ) (t : Bool) → length (cond t [] (b ∷ field x)) ≡ cond t 0 (1 + length (field x))
+    step b x true = refl
+    step b x false = omega arith
 
-pub stopped : (l : List ℕ) (i : ℕ) → Scanned l i → i < length l → get_or l i 0 ≡ 9 → i ≡ length (field l)
-unfolding field
-stopped l i s h e = let z : length (field (drop i l)) ≡ 0 = rw (drop-cons l i 0, eq-eqb (get_or l i 0) 9 e) in omega arith
-
-pub ended : (l : List ℕ) (i : ℕ) → Scanned l i → length l ≤ i → i ≡ length (field l)
-unfolding field
-ended l i s h = let z : length (field (drop i l)) ≡ 0 = rw (drop_of_length-le l h) in omega arith
+pub searched : (l : List ℕ) → unwrap_or (position is_tab l) (length l) ≡ length (field l)
+searched l = rw (sym (to_tab l)) (go (ltb (length (field l)) (length l)) refl)
+  where
+    go : (t : Bool) → ltb (length (field l)) (length l) ≡ t
+        → unwrap_or (cond t (Some (length (field l))) None) (length l) ≡ length (field l)
+    go true e = refl
+    go false e = omega (arith, ltb-false (length (field l)) (length l) e, field_within l)
 
 -- ---- what `after_tab` hands on
 
-pub handed : (l : List ℕ) (n : ℕ) → n ≡ length (field l) → n < length l → take (length l - (n + 1)) (drop (n + 1) l) ≡ after_tab l
-handed l n e h =
-    let p : Parted l = parted l (omega arith) in
-    take_all (length l - (n + 1)) (drop (n + 1) l) (simp length-drop (omega arith)) ∙ ap (λ (x : ℕ). drop (x + 1) l) e ∙ after_tab_law l p
+found : (l : List ℕ) (n : ℕ) → position is_tab l ≡ Some n → (n ≡ length (field l)) × (n < length l)
+found l n e = go (ltb (length (field l)) (length l)) refl (rw (sym (to_tab l)) at e)
+  where
+    go : (t : Bool) → ltb (length (field l)) (length l) ≡ t → cond t (Some (length (field l))) None ≡ Some n
+        → (n ≡ length (field l)) × (n < length l)
+    go true h k = let i : n ≡ length (field l) = cc in (i, omega (arith, ltb-true (length (field l)) (length l) h))
+    go false h k = cc
 
-pub nothing_handed : (l : List ℕ) (n : ℕ) → n ≡ length (field l) → length l ≤ n → take (length l - n) (drop n l) ≡ after_tab l
-nothing_handed l n e h =
-    let p : Lone l = lone l (omega arith) in
-    ap (take (length l - n)) (drop_of_length-le l h) ∙ take-nil (length l - n) ∙ sym p.none
+pub handed : (l : List ℕ) (n : ℕ) → position is_tab l ≡ Some n
+    → take (length l - (n + 1)) (drop (n + 1) l) ≡ after_tab l
+handed l n e =
+    let f = found l n e in
+    let p : Parted l = parted l (omega arith) in
+    take_all (length l - (n + 1)) (drop (n + 1) l) (simp length-drop (omega arith)) ∙ ap (λ (x : ℕ). drop (x + 1) l) f.0
+    ∙ after_tab_law l p
+
+pub nothing_handed : (l : List ℕ) → position is_tab l ≡ None → after_tab l ≡ []
+nothing_handed l e = (lone l (go (ltb (length (field l)) (length l)) refl (rw (sym (to_tab l)) at e))).none
+  where
+    go : (t : Bool) → ltb (length (field l)) (length l) ≡ t → cond t (Some (length (field l))) None ≡ None
+        → length l ≤ length (field l)
+    go true h k = cc
+    go false h k = ltb-false (length (field l)) (length l) h

@@ -1,4 +1,5 @@
--- What the numbers of a line are as f32: no rounding changes them. Definitions only; proofs/Exact.antt proves it of every number.
+-- What the numbers of a line are as f32: no rounding changes them. Definitions only; proofs/Exact.antt proves it of
+-- every number.
 use Rattle.std.specs.Prelude.{◌≡◌, false, ℕ, ◌<◌}
 use Rattle.std.specs.Float.Ieee.Exact.{HasValue}
 use Rattle.ranges.specs.Limits.{duration_refusal}

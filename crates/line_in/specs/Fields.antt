@@ -1,4 +1,5 @@
--- The fields of a line of the journal (document 01, "Journal program"). A line is its bytes, without the newline. Definitions only.
+-- The fields of a line of the journal (document 01, "Journal program"). A line is its bytes, without the newline.
+-- Definitions only.
 use Rattle.std.specs.Prelude.{Bool, cond, List, [], ◌∷◌, ℕ, eqb}
 use Prim.Native.Char.{code}
 
@@ -17,7 +18,8 @@ unfoldable pub after_tab : List ℕ → List ℕ
 after_tab [] = []
 after_tab (b ∷ l) = cond (is_tab b) l (after_tab l)
 
--- ---- "fields parted by one tab": all fields of a line. An empty line has one, which is empty; a tab at the end makes one more.
+-- ---- "fields parted by one tab": all fields of a line. An empty line has one, which is empty; a tab at the end makes
+-- one more.
 
 abbrev pub onto : ℕ → List (List ℕ) → List (List ℕ)
 onto b [] = (b ∷ []) ∷ []

@@ -5,34 +5,29 @@ ghost use Rattle.std.specs.Prelude.{◌≡◌};
 ghost use Rattle.line_in.specs.Form.{entry};
 
 use entries::{numbered, one};
-use fields::{after_tab, field_len};
 use station_model::Event;
 
 mod entries;
 pub mod fields;
 pub mod values;
 
-// What a line says: a watch begins, a call of the station, or nothing, since the line breaks its form.
+// What a line says: a watch begins, or a call of the station.
 #[derive(Clone, Copy)]
 pub enum Entry {
     Watch { width: u32, switching: bool },
     Call(Event),
-    Bad,
 }
 
-// What a line says. It is handed over without its newline, and may have any length.
-pub fn entry_of(line: &[u8]) -> Entry
+// What a line says; none where it breaks its form. It is handed over without its newline, and may have any length.
+pub fn entry_of(line: &[u8]) -> Option<Entry>
     ensures { result ≡ entry line.now }
 {
     if line.len() > 79 {
-        return Entry::Bad;
+        return None;
     }
-    if field_len(line) != 1 {
-        return Entry::Bad;
+    match line {
+        [letter] => one(*letter),
+        [letter, b'\t', rest @ ..] => numbered(*letter, rest),
+        _ => None,
     }
-    let letter = line[0];
-    if line.len() == 1 {
-        return one(letter);
-    }
-    numbered(letter, after_tab(line))
 }

@@ -2,7 +2,7 @@
 use mathlib.Core.Path.{◌≡◌, sym, ap, ◌∙◌}
 use mathlib.Core.Bool.{Bool, true, false, cond}
 use mathlib.Core.List.{List, [], ◌∷◌, ◌++◌}
-use Prim.Native.Nat.{ℕ, ◌+◌, ◌-◌, ◌≤◌, ◌<◌}
+use Prim.Native.Nat.{ℕ, ◌+◌, ◌-◌, ◌<◌}
 use native.Mathlib.Nat.{lt_of_lt_of_le}
 use native.Mathlib.Omega.{arith}
 use lib.Dec.{lit≤}
@@ -13,7 +13,7 @@ use Rattle.station_model.specs.Station.{number, taken}
 use Rattle.line_out.specs.declared.Shown.{Shown}
 use Rattle.line_out.specs.Shown.{tab, newline, hexadecimal, decimal, coded, line}
 use Rattle.line_out.specs.Form.{occurs, Formed, Readable}
-use Rattle.line_out.proofs.Lining.{front6, whole, coded_short, line_most, line_least}
+use Rattle.line_out.proofs.Lining.{front, whole, line_most, line_least}
 use Rattle.line_out.proofs.Reading.{digits_value, tens_value, tens_first, digits_none, tens_none}
 
 -- ---- how often a byte occurs
@@ -33,15 +33,19 @@ coded_none b h s = marked (taken s.code) (decimal (number s.code)) (tens_none b 
     marked false l e = rw (ne_eqb b 82 (λ q. omega (arith, q))) (omega (arith, e))
 
 seven : (b : ℕ) (k l m n o p q : List ℕ)
-    → occurs b ((((((k ++ l) ++ m) ++ n) ++ o) ++ p) ++ q) ≡ occurs b k + occurs b l + occurs b m + occurs b n + occurs b o + occurs b p + occurs b q
+    → occurs b
+    ((((((k ++ l) ++ m) ++ n) ++ o) ++ p) ++ q)
+    ≡ occurs b k + occurs b l + occurs b m + occurs b n + occurs b o + occurs b p + occurs b q
 seven b k l m n o p q = simp occurs_append
 
 -- below `0` only the letter, the tabs and the newline are left
-line_occurs : (b : ℕ) → b < 48 → (s : Shown) → occurs b (line s) ≡ occurs b (s.letter ∷ tab ∷ tab ∷ tab ∷ tab ∷ tab ∷ newline ∷ [])
+line_occurs : (b : ℕ) → b < 48 → (s : Shown)
+    → occurs b (line s) ≡ occurs b (s.letter ∷ tab ∷ tab ∷ tab ∷ tab ∷ tab ∷ newline ∷ [])
 unfolding occurs
 line_occurs b h s =
     ap (occurs b) (sym (whole s))
-    ∙ seven b (s.letter ∷ []) (tab ∷ coded s.code) (tab ∷ hexadecimal s.dit) (tab ∷ hexadecimal s.dah) (tab ∷ decimal s.serial) (tab ∷ decimal s.challengers) (newline ∷ [])
+    ∙ seven b (s.letter ∷ []) (tab ∷ coded s.code) (tab ∷ hexadecimal s.dit) (tab ∷ hexadecimal s.dah)
+    (tab ∷ decimal s.serial) (tab ∷ decimal s.challengers) (newline ∷ [])
     ∙ omega (
       arith,
       coded_none b h s,
@@ -55,14 +59,14 @@ line_occurs b h s =
 line_ends : (s : Shown) → get_or (line s) (length (line s) - 1) 0 ≡ newline
 line_ends s =
     ap (λ l. get_or l (length l - 1) 0) (sym (whole s))
-    ∙ get_or_at (front6 s) newline [] 0 (length (front6 s ++ (newline ∷ [])) - 1) (omega (arith, length-append (front6 s) (newline ∷ [])))
+    ∙ get_or_at (front s) newline [] 0 (length (front s ++ (newline ∷ [])) - 1)
+    (omega (arith, length-append (front s) (newline ∷ [])))
 
--- every line whose refusal, if it has one, has a number of 8 bits: the code's `Refused` holds a u8
-pub formed : (s : Shown) → number s.code < 256 → Formed s
+pub formed : (s : Shown) → Formed s
 unfolding occurs
-formed s h = record {
+formed s = record {
   least = line_least s;
-  most = line_most s (coded_short s.code h);
+  most = line_most s;
   ends = line_ends s;
   newlines = λ n. line_occurs newline (omega arith) s ∙ rw (ne_eqb newline s.letter (λ e. n (sym e)));
   tabs = λ n. line_occurs tab (omega arith) s ∙ rw (ne_eqb tab s.letter (λ e. n (sym e)));

@@ -1,7 +1,5 @@
-pub mod Pasting
 pub mod Digits
-pub mod Filling
-pub mod Sizing
+pub mod Holding
 pub mod Lining
 pub mod Reading
 pub mod Form

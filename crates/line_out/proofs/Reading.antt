@@ -49,14 +49,16 @@ pub digits_value : (b k n : ℕ) → 0 < b → b ≤ 16 → n < b ^ k → value 
 unfolding digits value
 digits_value b zero n p q h = let z = rw pow-zero at h in omega arith
 digits_value b (suc k) n p q h =
-    last_value b n (digits b k (n / b)) p q (digits_value b k (n / b) p q ((div-lt_iff_lt-mul {k = b} {x = n} {y = b ^ k} p).1 (rw pow-suc at h)))
+    last_value b n (digits b k (n / b)) p q
+    (digits_value b k (n / b) p q ((div-lt_iff_lt-mul {k = b} {x = n} {y = b ^ k} p).1 (rw pow-suc at h)))
 
 pub tens_value : (k n : ℕ) → n < 10 ^ k → value 10 0 (tens k n) ≡ n
 unfolding tens value
 tens_value zero n h = omega (arith, h)
 tens_value (suc k) n h = ⊎_elim
     (λ s. rw (tens_one k n s) (omega (arith, glyph_figure n (omega arith))))
-    (λ s. rw (tens_more k n s) (last_value 10 n (tens k (n / 10)) (omega arith) (omega arith) (tens_value k (n / 10) (tenth k n h))))
+    (λ s. rw (tens_more k n s) (last_value 10 n (tens k (n / 10)) (omega arith) (omega arith)
+    (tens_value k (n / 10) (tenth k n h))))
     (ten? n)
 
 -- ---- the first digit

@@ -1,7 +1,9 @@
--- Worked output lines: document 01's five ("Journal program", the block after "prints"), and some that it does not have. Definitions only; proofs/Examples.antt computes them.
+-- Worked output lines: document 01's five ("Journal program", the block after "prints"), and some that it does not
+-- have. Definitions only; proofs/Examples.antt computes them.
 use Rattle.std.specs.Prelude.{◌≡◌, List, [], ◌∷◌, ℕ}
 use Prim.Native.Char.{code}
 use Prim.Native.String.{String, [] as empty, ◌∷◌ as ◌then◌}
+use Rattle.refusals.specs.declared.Refusal.TheVariants.{BadLine}
 use Rattle.station_model.specs.declared.Code.{Code}
 use Rattle.station_model.specs.declared.Code.TheVariants.{Done, BecameReady, Switched, Nothing, Refused}
 use Rattle.line_out.specs.declared.Shown.{Shown}
@@ -45,7 +47,9 @@ worked =
     -- a switch, with 60 and 180 ms
     ∷ shows (code "X") Switched 0x4270_0000 0x4334_0000 10 7 "X\t2\t42700000\t43340000\t10\t7\n"
     -- a bad line, with 79.8 and 475.6 ms
-    ∷ shows (code "?") (Refused 12) 0x429f_abcd 0x43ed_cbaf 4294967294 0 "?\tR12\t429FABCD\t43EDCBAF\t4294967294\t0\n"
+    ∷ shows (code "?")
+    (Refused BadLine) 0x429f_abcd 0x43ed_cbaf 4294967294 0 "?\tR12\t429FABCD\t43EDCBAF\t4294967294\t0\n"
     -- the longest that can be written: no station has such numbers
-    ∷ shows (code "M") (Refused 255) 0 0xffff_ffff 18446744073709551615 10000000000000000000 "M\tR255\t00000000\tFFFFFFFF\t18446744073709551615\t10000000000000000000\n"
+    ∷ shows (code "M")
+    (Refused BadLine) 0 0xffff_ffff 18446744073709551615 10000000000000000000 "M\tR12\t00000000\tFFFFFFFF\t18446744073709551615\t10000000000000000000\n"
     ∷ []

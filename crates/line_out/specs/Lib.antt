@@ -1,4 +1,5 @@
 pub mod Shown
+pub mod Bytes
 pub mod Written
 pub mod Form
 pub mod Examples

@@ -49,7 +49,8 @@ parted [] = []
 parted (f ∷ []) = f
 parted (f ∷ g ∷ fs) = f ++ (tab ∷ parted (g ∷ fs))
 
--- "Each output line ..: the letter (`?` if bad), code, dit and dah centroid as 8 hexadecimal digits of f32 bits, primary serial, challenger count"
+-- "Each output line ..: the letter (`?` if bad), code, dit and dah centroid as 8 hexadecimal digits of f32 bits,
+-- primary serial, challenger count"
 abbrev pub fields : Shown → List (List ℕ)
 fields s =
     (s.letter ∷ [])

@@ -5,8 +5,7 @@ use Rattle.journal.proofs.answer.Given as goal
 
 abbrev pub invariant-loop-at : goal.invariant-loop-at
 invariant-loop-at g l =
-    Serving l.initial.went.journal l.piece l.initial.out (g.W.Write.contents l.initial.to) l.went l.at l.out
-    (g.W.Write.contents l.to)
+    Serving l.initial.j l.piece l.initial.out (g.W.Write.contents l.initial.to) l.j l.at l.out (g.W.Write.contents l.to)
 
 abbrev pub decreases-loop-at : goal.decreases-loop-at
 decreases-loop-at g l = length l.piece - l.at

@@ -1,16 +1,16 @@
 -- `journal::serve` meets its contract. Assumes nothing.
-use Rattle.journal.proofs.Ending.{served, unserved, whole}
+use Rattle.std.proofs.Common.{[], rules}
+use Rattle.journal.proofs.Ending.{always, served, whole_written}
 use Rattle.journal.proofs.serve.Goals as goal
 
-pub returns-then-w-clause-serves : goal.returns-then-w-clause-serves
-returns-then-w-clause-serves g c =
-    served _ c.start.ensures.result_value.0 _ c.run-w.ensures.reads _ _ _ c.close.ensures.closes
-
-pub returns-then-w-clause-whole : goal.returns-then-w-clause-whole
-returns-then-w-clause-whole g c =
-    λ h e. whole _ c.start.ensures.result_value.0 _ c.run-w.ensures.reads _ h _ _ _ _ _
-    (c.run-w.ensures.moves c.if-w.true) (c.close.ensures.wrote e)
+pub returns-in_err-run-clause-serves : goal.returns-in_err-run-clause-serves
+returns-in_err-run-clause-serves g c = served _ c.requires.fresh _ c.in_err-run.ensures.reads [] _ _ (search rules)
 
 pub returns-clause-serves : goal.returns-clause-serves
 returns-clause-serves g c =
-    unserved _ c.start.ensures.result_value.0 _ c.run-w.ensures.reads c.if-w.false _
+    served _ c.requires.fresh _ c.in_ok-run.ensures.reads _ _ _ (always _ c.end-n.ensures.out_after)
+
+pub returns-clause-whole : goal.returns-clause-whole
+returns-clause-whole g c = λ h.
+    whole_written _ c.requires.fresh _ c.in_ok-run.ensures.reads _ h _ _ _ _ _ c.in_ok-run.ensures.moves _ _ _
+    c.end-n.ensures.value c.end-n.ensures.out_after _ c.put_last.ensures

@@ -1,20 +1,19 @@
 // A line's answer (document 01, "Journal program").
-ghost use Rattle.std.specs.Prelude.{◌≡◌, true};
-ghost use Rattle.std.proofs.Math.Option.{none, some};
+ghost use Rattle.std.specs.Prelude.{◌≡◌};
+ghost use Rattle.std.proofs.Math.Option.{some};
 ghost use Rattle.ranges.specs.Settings.{standard};
 ghost use Rattle.station.specs.View.{view};
 ghost use Rattle.station.specs.Parts.{Steady};
 ghost use Rattle.station_model.specs.Station.{step};
-ghost use Rattle.line_in.specs.declared.Entry.TheVariants.{Call};
 ghost use Rattle.journal_lines.specs.Journal.{answer, bad, called, letter, opened, shown};
-ghost use Rattle.journal_lines.specs.Parts.{Answered, Lives, calls, reading};
+ghost use Rattle.journal_lines.specs.Parts.{Answered, Called, Lives, reading};
 
-use crate::Turned;
 use line_in::Entry;
 use line_out::Shown;
+use refusals::Refusal;
+use station::Station;
 use station::inner::call::next;
 use station::inner::fresh::fresh;
-use station::{Outcome, Station};
 use station_model::{Code, Event};
 
 // The letter of an event.
@@ -32,173 +31,83 @@ pub(crate) fn letter(e: Event) -> u8
     }
 }
 
-// What is shown where there is no station.
-pub(crate) fn show_none(letter: u8, code: Code) -> Shown
-    ensures { result ≡ shown letter code none }
+// What is shown of a station; zeros stand for it until there is one.
+pub(crate) fn show(station: &Option<Station>, letter: u8, code: Code) -> Shown
+    requires { Lives station.now }
+    ensures { result ≡ shown letter code (reading station.now) }
 {
-    Shown {
-        letter,
-        code,
-        dit: 0,
-        dah: 0,
-        serial: 0,
-        challengers: 0,
+    match station {
+        None => Shown {
+            letter,
+            code,
+            dit: 0,
+            dah: 0,
+            serial: 0,
+            challengers: 0,
+        },
+        Some(s) => show_one(s, letter, code),
     }
 }
 
-// What is shown of a station.
-pub(crate) fn show(s: Station, letter: u8, code: Code) -> Shown
-    requires { Steady s }
-    ensures { result ≡ shown letter code (some (view s)) }
+// What is shown of a station that there is.
+pub(crate) fn show_one(s: &Station, letter: u8, code: Code) -> Shown
+    requires { Steady s.now }
+    ensures { result ≡ shown letter code (some (view s.now)) }
 {
-    let p = s.primary;
-    let q = p.pair;
-    let b = s.bank;
-    let n = b.challengers_len;
     Shown {
         letter,
         code,
-        dit: f32::to_bits(q.lo),
-        dah: f32::to_bits(q.hi),
+        dit: s.primary.pair.lo.to_bits(),
+        dah: s.primary.pair.hi.to_bits(),
         serial: s.serial,
-        challengers: n as u64,
+        challengers: s.bank.challengers_len as u64,
     }
 }
 
-// A bad line, where there is no station yet.
-pub(crate) fn bad_before(s: Station) -> Turned
-    ensures { Answered result (bad none) }
+// A bad line: it is answered 12 and passed over.
+pub(crate) fn bad(station: &Option<Station>) -> Shown
+    requires { Lives station.now }
+    ensures { Answered station.now result (bad (reading station.now)) }
 {
-    let shown = show_none(b'?', Code::Refused(12));
-    Turned {
-        begun: false,
-        station: s,
-        shown,
-    }
-}
-
-// A bad line, beside a station.
-pub(crate) fn bad_beside(s: Station) -> Turned
-    requires { Steady s }
-    ensures { Answered result (bad (some (view s))) }
-{
-    let shown = show(s, b'?', Code::Refused(12));
-    Turned {
-        begun: true,
-        station: s,
-        shown,
-    }
+    show(station, b'?', Code::Refused(Refusal::BadLine))
 }
 
 // A `W` where there is no station yet.
-pub(crate) fn watch(s: Station, width: u32, switching: bool) -> Turned
-    ensures { Answered result (opened width switching) }
+pub(crate) fn watch(station: &mut Option<Station>, width: u32, switching: bool) -> Shown
+    requires { station.old ≡ None }
+    ensures { Answered station.new result (opened width switching) }
 {
-    if width <= 8 {
-        let station = fresh(width as usize, switching);
-        let shown = show(station, b'W', Code::Done);
-        return Turned {
-            begun: true,
-            station,
-            shown,
-        };
+    if width > 8 {
+        return show(station, b'W', Code::Refused(Refusal::TooWide));
     }
-    let shown = show_none(b'W', Code::Refused(3));
-    Turned {
-        begun: false,
-        station: s,
-        shown,
-    }
+    *station = Some(fresh(width as usize, switching));
+    show(station, b'W', Code::Done)
 }
 
 // An event, of a station.
-pub(crate) fn event(s: Station, e: Event) -> Turned
-    requires { Steady s }
-    ensures { Answered result (called e (step standard (view s) e)) }
+pub(crate) fn event(s: &mut Station, e: Event) -> Shown
+    requires { Steady s.old }
+    ensures { Called s.new result (called e (step standard (view s.old) e)) }
 {
-    let o = next(s, e);
-    let shown = show_outcome(e, o);
-    let station = o.station;
-    Turned {
-        begun: true,
-        station,
-        shown,
-    }
+    let o = next(*s, e);
+    *s = o.station;
+    show_one(s, letter(e), o.answer.code)
 }
 
-// A line's answer where there is no station yet: only `W` is good.
-pub(crate) fn answer_before(s: Station, e: Entry) -> Turned
-    ensures { Answered result (answer standard none e) }
+// A line's answer: before a good `W` only `W` is good, later `W` lines are bad.
+pub fn answer(station: &mut Option<Station>, e: Option<Entry>) -> Shown
+    requires { Lives station.old }
+    ensures { Answered station.new result (answer standard (reading station.old) e) }
 {
     match e {
-        Entry::Watch { width, switching } => watch(s, width, switching),
-        Entry::Call(_) => bad_before(s),
-        Entry::Bad => bad_before(s),
+        Some(Entry::Call(c)) => match station {
+            Some(s) => event(s, c),
+            None => bad(station),
+        },
+        Some(Entry::Watch { width, switching }) => match station {
+            Some(_) => bad(station),
+            None => watch(station, width, switching),
+        },
+        None => bad(station),
     }
-}
-
-// A line's answer beside a station.
-pub(crate) fn answer_beside(s: Station, e: Entry) -> Turned
-    requires { Steady s }
-    ensures { Answered result (answer standard (some (view s)) e) }
-{
-    match e {
-        Entry::Watch {
-            width: _,
-            switching: _,
-        } => bad_beside(s),
-        Entry::Call(c) => event(s, c),
-        Entry::Bad => bad_beside(s),
-    }
-}
-
-// A line's answer.
-pub fn answer(begun: bool, s: Station, e: Entry) -> Turned
-    requires { Lives begun s }
-    ensures { Answered result (answer standard (reading begun s) e) }
-{
-    if begun {
-        return answer_beside(s, e);
-    }
-    answer_before(s, e)
-}
-
-// Whether a line is a call of the station.
-pub(crate) fn calls(begun: bool, e: Entry) -> bool
-    ensures { result ≡ calls begun e }
-{
-    match e {
-        Entry::Watch {
-            width: _,
-            switching: _,
-        } => false,
-        Entry::Call(_) => begun,
-        Entry::Bad => false,
-    }
-}
-
-// The call that a line is.
-pub(crate) fn event_of(e: Entry) -> Event
-    requires { calls true e ≡ true }
-    ensures { e ≡ Call result }
-{
-    match e {
-        Entry::Watch {
-            width: _,
-            switching: _,
-        } => Event::Finish,
-        Entry::Call(c) => c,
-        Entry::Bad => Event::Finish,
-    }
-}
-
-// What is shown of a call's outcome.
-pub(crate) fn show_outcome(e: Event, o: Outcome) -> Shown
-    requires { Steady o.station }
-    ensures { result ≡ shown (letter e) o.answer.code (some (view o.station)) }
-{
-    let s = o.station;
-    let a = o.answer;
-    let code = a.code;
-    show(s, letter(e), code)
 }

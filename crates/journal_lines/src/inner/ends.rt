@@ -6,39 +6,31 @@ ghost use Rattle.journal_lines.specs.Parts.{Goes, viewed};
 ghost use Rattle.journal_lines.specs.Runs.{Promises};
 
 use crate::Journal;
-use crate::inner::answer::answer;
-use line_in::Entry;
+use crate::inner::answer::bad;
+use line_out::Bytes;
 use line_out::inner::write_line;
-use station::inner::fresh::fresh;
 
 // A journal of which nothing was read, and what it promises of every input.
 pub fn start() -> Journal
     ensures result_value { (viewed result ≡ start) × Goes result }
     ensures promises { Promises result }
 {
-    let station = fresh(1, false);
-    let held = [0u8; 80];
     Journal {
-        begun: false,
-        station,
-        held,
-        held_len: 0,
+        station: None,
+        held: Bytes::new(),
         left: 4294967295,
     }
 }
 
 // The end of the input: a last line without its newline is a bad one.
-pub fn end(j: Journal, out: &mut [u8]) -> usize
-    requires goes { Goes j }
+pub fn end(j: &Journal, out: &mut [u8]) -> usize
+    requires goes { Goes j.now }
     requires in_bounds { 80 ≤ length out.old }
-    ensures value { result ≡ length (end (viewed j)) }
-    ensures out_after { out.new ≡ over (end (viewed j)) out.old }
+    ensures value { result ≡ length (end (viewed j.now)) }
+    ensures out_after { out.new ≡ over (end (viewed j.now)) out.old }
 {
-    if j.held_len == 0 {
+    if j.held.as_slice().is_empty() {
         return 0;
     }
-    let s = j.station;
-    let t = answer(j.begun, s, Entry::Bad);
-    let shown = t.shown;
-    write_line(out, shown)
+    write_line(out, bad(&j.station))
 }

@@ -1,45 +1,34 @@
 // The bytes of a line, as they come.
-ghost use Rattle.std.specs.Prelude.{◌≡◌, ◌≤◌, length, take};
+ghost use Rattle.std.specs.Prelude.{◌≡◌, eqb, position};
+ghost use Rattle.line_out.specs.Bytes.{contents};
 ghost use Rattle.journal_lines.specs.Parts.{Gathers};
 
-use crate::Gathered;
+use line_out::Bytes;
 
-// Holds the bytes of a piece up to its first newline, and takes that too; where no line may be read any more, takes all and holds no more.
-pub fn gather(was: [u8; 80], was_len: usize, left: u64, piece: &[u8]) -> Gathered
-    requires { was_len ≤ 80 }
-    ensures { Gathers left (take was_len was) piece.now result }
+// Where the first newline of a piece is.
+fn newline(piece: &[u8]) -> Option<usize>
+    ensures { result ≡ position (λ b. eqb b 10) piece.now }
+{
+    piece.iter().position(|b| *b == b'\n')
+}
+
+// Holds the bytes of a piece up to its first newline, and answers how many they are with it; where there is none, or no
+// line may be read any more, all bytes of the piece are taken. They are held as far as there is room for them: a line
+// that has so many is bad whatever follows.
+pub fn gather(line: &mut Bytes<80>, left: u64, piece: &[u8]) -> Option<usize>
+    ensures { Gathers left (contents line.old) piece.now (contents line.new) result }
 {
     if left == 0 {
-        return Gathered {
-            held: was,
-            held_len: was_len,
-            took: piece.len(),
-            ended: false,
-        };
+        return None;
     }
-    let mut held = was;
-    let mut held_len = was_len;
-    let mut took: usize = 0;
-    while took < piece.len() {
-        let b = piece[took];
-        took += 1;
-        if b == 10 {
-            return Gathered {
-                held,
-                held_len,
-                took,
-                ended: true,
-            };
+    match newline(piece) {
+        Some(n) => {
+            line.write(&piece[..n]);
+            Some(n + 1)
         }
-        if held_len < 80 {
-            held[held_len] = b;
-            held_len += 1;
+        None => {
+            line.write(piece);
+            None
         }
-    }
-    Gathered {
-        held,
-        held_len,
-        took,
-        ended: false,
     }
 }

@@ -1,30 +1,20 @@
 -- `line_in::entry_of` meets its contract. Assumes nothing.
-use mathlib.Core.Path.{sym, ◌∙◌, ap}
-use mathlib.Core.List.{List, [], ◌∷◌}
-use Prim.Native.Nat.{ℕ}
-use Rattle.line_in.proofs.Parting.{field_within}
+use mathlib.Core.Path.{sym, ◌∙◌}
 use native.Mathlib.Omega.{arith}
-use lib.ListN.{get_or}
-use Rattle.line_in.specs.Fields.{fields}
-use Rattle.line_in.specs.Form.{said}
-use Rattle.line_in.proofs.Forms.{too_long, unlettered, letter_alone, letter_first}
+use Rattle.line_in.proofs.Forms.{too_long, letter_alone, letter_none, empty_line, letter_first}
 use Rattle.line_in.proofs.entry_of.Goals as goal
 
 pub returns-then-line-gt79 : goal.returns-then-line-gt79
 returns-then-line-gt79 c = sym (too_long _ c.if-line-gt79.true)
 
-pub returns-then-field_len-ne1 : goal.returns-then-field_len-ne1
-returns-then-field_len-ne1 c = sym (unlettered _ c.if-line-gt79.false (λ e. c.if-field_len-ne1.true (c.field_len.ensures ∙ e)))
+pub returns-in-len1 : goal.returns-in-len1
+returns-in-len1 c = c.one.ensures ∙ sym (letter_alone _ (omega arith))
 
-pub bounds-line-0 : goal.bounds-line-0
-bounds-line-0 c = omega (arith, field_within c.args.line.now)
+pub returns-in-9 : goal.returns-in-9
+returns-in-9 c = c.numbered.ensures ∙ sym (letter_first _ c.in-9.len_at_least c.if-line-gt79.false (omega arith))
 
-pub returns-then-line-eq1 : goal.returns-then-line-eq1
-returns-then-line-eq1 c = c.one.ensures ∙ sym (letter_alone _ c.if-line-eq1.true (sym c.field_len.ensures ∙ c.if-field_len-ne1.false))
+pub returns-in_default : goal.returns-in_default
+returns-in_default c = sym (empty_line _ c.in_default.len_below)
 
-pub returns : goal.returns
-returns c =
-    let p = c.before.before.before.before in
-    c.numbered.ensures
-    ∙ ap (λ (x : List ℕ). said ((get_or p.args.line.now 0 0 ∷ []) ∷ fields x)) c.after_tab.ensures
-    ∙ sym (letter_first _ p.if-line-gt79.false (sym p.field_len.ensures ∙ p.if-field_len-ne1.false) c.if-line-eq1.false)
+pub returns-in_default-2 : goal.returns-in_default-2
+returns-in_default-2 c = sym (letter_none _ c.in_default.len_at_least c.if-line-gt79.false (λ e. omega arith))

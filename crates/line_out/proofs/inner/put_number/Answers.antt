@@ -1,7 +1,8 @@
 -- `line_out::inner::put_number` meets its contract. Assumes nothing.
-use native.Mathlib.Omega.{arith}
-use Rattle.line_out.proofs.Pasting.{put_next}
+use Rattle.std.proofs.Common.{[], ◌∷◌}
+use Rattle.line_out.specs.Shown.{tab, decimal}
+use Rattle.line_out.proofs.Holding.{joins}
 use Rattle.line_out.proofs.inner.put_number.Goals as goal
 
 pub returns : goal.returns
-returns c = put_next (omega arith) c.put_byte-a.ensures c.put_digits.ensures
+returns c = joins _ (tab ∷ []) (decimal c.args.n) c.push.ensures c.put_decimal.ensures
