@@ -8,97 +8,60 @@
 // s one of the primary (its number, its place, its value).
 #![tactic(auto)]
 
-use crate::banks::{put_bank, put_hypothesis, put_left, put_long, put_record, put_short};
+use crate::banks::{put_bank, put_hypothesis, put_record, put_short};
 use exports::{of_bank as calls, of_tracker as trackers};
 use plain::PlainBank;
-use plain_tracker::from::tracker_of;
-use plain_tracker::to::plain_tracker;
-use replay::{float, put_byte, put_code, put_flag};
-use shown::put_tracker;
+use plain_tracker::PlainTracker;
+use replay::{Line, put_answer, put_byte, put_code, put_long};
+use shown::{Listed, listed, none_listed, put_departure, put_held, put_list, put_tracker};
 use std::io;
-use std::io::{BufWriter, Read, Write};
-use tracker::SpeedTracker;
+use std::io::{BufWriter, Write};
 
 mod banks;
 mod parts;
 
 // A bank, the primary beside it with its serial, and the marks that the next list has.
-#[derive(Clone, Copy)]
+#[derive(Drop)]
 struct Run {
     bank: PlainBank,
-    primary: SpeedTracker,
+    primary: PlainTracker,
     serial: u64,
-    marks: [f32; 13],
-    count: usize,
+    marks: Listed,
 }
 
-// A run with another bank.
-fn with_bank(r: Run, b: PlainBank) -> Run {
-    let mut next = r;
-    next.bank = b;
-    next.count = 0;
-    next
-}
-
-fn with_primary(r: Run, t: SpeedTracker) -> Run {
-    let mut next = r;
-    next.primary = t;
-    next
-}
-
-// The end of an answer: what changes most.
-fn put_end<W: Write>(out: &mut W, b: PlainBank) -> io::Result<()> {
+// The end of a call that left the bank b, and of its answer, what changes most: the list is empty again.
+fn left<W: Write>(out: &mut W, r: &mut Run, b: PlainBank) -> io::Result<()> {
+    r.bank = b;
+    r.marks = none_listed();
     put_short(out, b)?;
     put_byte(out, b'\n')
 }
 
 // An answer with those that left.
-fn answered<W: Write>(out: &mut W, letter: u8, r: Run, a: calls::BankAnswered) -> io::Result<Run> {
+fn answered<W: Write>(
+    out: &mut W,
+    r: &mut Run,
+    letter: u8,
+    a: calls::BankAnswered,
+) -> io::Result<()> {
     put_byte(out, letter)?;
     put_code(out, a.code)?;
-    let left = a.left;
-    put_left(out, left, a.left_len)?;
-    let b = a.bank;
-    put_end(out, b)?;
-    Ok(with_bank(r, b))
+    put_list(out, &a.left, a.left_len, put_departure)?;
+    left(out, r, a.bank)
 }
 
-fn heard<W: Write>(out: &mut W, letter: u8, r: Run, a: calls::BankHeard) -> io::Result<Run> {
+fn heard<W: Write>(out: &mut W, r: &mut Run, letter: u8, a: calls::BankHeard) -> io::Result<()> {
     put_byte(out, letter)?;
     put_code(out, a.code)?;
-    let b = a.bank;
-    put_end(out, b)?;
-    Ok(with_bank(r, b))
+    left(out, r, a.bank)
 }
 
-fn switched<W: Write>(out: &mut W, r: Run, a: calls::BankSwitched) -> io::Result<Run> {
-    put_byte(out, b'X')?;
-    put_code(out, a.code)?;
-    put_flag(out, a.yes)?;
+fn switched<W: Write>(out: &mut W, r: &mut Run, a: calls::BankSwitched) -> io::Result<()> {
+    r.primary = a.primary;
+    r.serial = a.serial;
+    put_answer(out, b'X', a.code, a.yes)?;
     put_long(out, a.serial)?;
-    let b = a.bank;
-    let p = a.primary;
-    put_end(out, b)?;
-    let s = with_primary(with_bank(r, b), p);
-    let mut next = s;
-    next.serial = a.serial;
-    Ok(next)
-}
-
-// A call with the list.
-fn ready(b: PlainBank, p: SpeedTracker, marks: &[f32], n: usize) -> calls::BankAnswered {
-    if n <= marks.len() {
-        return calls::hullathan_bank_on_ready(b, p, &marks[..n]);
-    }
-    calls::hullathan_bank_clear(b)
-}
-
-fn on_ready<W: Write>(out: &mut W, r: Run) -> io::Result<Run> {
-    let b = r.bank;
-    let p = r.primary;
-    let marks = r.marks;
-    let a = ready(b, p, &marks, r.count);
-    answered(out, b'R', r, a)
+    left(out, r, a.bank)
 }
 
 fn put_tally<W: Write>(out: &mut W, t: calls::BankTally) -> io::Result<()> {
@@ -110,19 +73,10 @@ fn put_tally<W: Write>(out: &mut W, t: calls::BankTally) -> io::Result<()> {
 fn put_place<W: Write>(out: &mut W, b: PlainBank, i: usize) -> io::Result<()> {
     let c = calls::hullathan_bank_challenger(b, i);
     put_code(out, c.code)?;
-    put_flag(out, c.has)?;
-    if c.has {
-        let h = c.challenger;
-        put_hypothesis(out, h)?;
-    }
+    put_held(out, c.has.then_some(c.challenger), put_hypothesis)?;
     let l = calls::hullathan_bank_switch_record(b, i);
     put_code(out, l.code)?;
-    put_flag(out, l.has)?;
-    if l.has {
-        let e = l.entry;
-        put_record(out, e)?;
-    }
-    Ok(())
+    put_held(out, l.has.then_some(l.entry), put_record)
 }
 
 // Every call that only reads.
@@ -135,188 +89,134 @@ fn put_readings<W: Write>(out: &mut W, b: PlainBank, i: usize) -> io::Result<()>
     put_byte(out, b'\n')
 }
 
-fn put_all<W: Write>(out: &mut W, r: Run) -> io::Result<()> {
+fn put_all<W: Write>(out: &mut W, r: &Run) -> io::Result<()> {
     put_byte(out, b'A')?;
-    let b = r.bank;
-    let p = r.primary;
-    put_bank(out, b)?;
+    put_bank(out, r.bank)?;
     put_long(out, r.serial)?;
-    put_tracker(out, p)?;
+    put_tracker(out, r.primary)?;
     put_byte(out, b'\n')
 }
 
 // A call of the primary: its code.
-fn told<W: Write>(out: &mut W, letter: u8, r: Run, a: trackers::TrackerTold) -> io::Result<Run> {
+fn told<W: Write>(
+    out: &mut W,
+    p: &mut PlainTracker,
+    letter: u8,
+    a: trackers::TrackerTold,
+) -> io::Result<()> {
+    *p = a.tracker;
     put_byte(out, letter)?;
     put_code(out, a.code)?;
-    put_byte(out, b'\n')?;
-    let t = a.tracker;
-    Ok(with_primary(r, t))
+    put_byte(out, b'\n')
 }
 
-fn primary_call<W: Write>(out: &mut W, r: Run, letter: u8, x: f32) -> io::Result<Run> {
-    let t = r.primary;
+fn begun<W: Write>(
+    out: &mut W,
+    p: &mut PlainTracker,
+    a: trackers::TrackerFlagged,
+) -> io::Result<()> {
+    *p = a.tracker;
+    put_answer(out, b'f', a.code, a.yes)?;
+    put_byte(out, b'\n')
+}
+
+fn primary_call<W: Write>(out: &mut W, p: &mut PlainTracker, line: &Line) -> io::Result<()> {
+    let letter = line.letter();
+    let t = *p;
+    let x = line.float();
     match letter {
-        b'm' => told(out, letter, r, trackers::hullathan_tracker_on_mark(t, x)),
+        b'm' => told(out, p, letter, trackers::hullathan_tracker_on_mark(t, x)),
         b'g' => told(
             out,
+            p,
             letter,
-            r,
             trackers::hullathan_tracker_on_element_gap(t, x),
         ),
-        b'w' => told(out, letter, r, trackers::hullathan_tracker_seed_wpm(t, x)),
-        b'f' => {
-            let a = trackers::hullathan_tracker_bootstrap(t);
-            put_byte(out, letter)?;
-            put_code(out, a.code)?;
-            put_flag(out, a.yes)?;
-            put_byte(out, b'\n')?;
-            let u = a.tracker;
-            Ok(with_primary(r, u))
+        b'w' => told(out, p, letter, trackers::hullathan_tracker_seed_wpm(t, x)),
+        b'f' => begun(out, p, trackers::hullathan_tracker_bootstrap(t)),
+        _ => {
+            *p = trackers::hullathan_tracker_new();
+            Ok(())
         }
-        _ => Ok(with_primary(r, trackers::hullathan_tracker_new())),
     }
 }
 
 // A part of a challenger's tracker set.
-fn set_rival(b: PlainBank, k: usize, part: u32, place: u32, v: u32) -> PlainBank {
-    let mut c = b;
+fn set_rival(b: &mut PlainBank, line: &Line) {
+    let k = usize::from(line.number());
     if k < 8 {
-        let mut h = b.challengers[k];
-        let t = h.tracker;
-        let u = plain_tracker(shown::parts::set_part(tracker_of(t), part, place, v));
-        h.tracker = u;
-        c.challengers[k] = h;
+        shown::parts::set_part(&mut b.challengers[k].tracker, line);
     }
-    c
 }
 
-// What is set before the next call: nothing is printed.
-fn set(r: Run, line: &[u8; 31], letter: u8) -> Run {
-    let b = r.bank;
-    let p = r.primary;
-    let part = replay::first(line);
-    let place = replay::second(line);
-    let v = replay::third(line);
-    match letter {
-        b'S' => with_bank(r, parts::set_part(b, part, place, v)),
-        b'T' => with_bank(
-            r,
-            set_rival(b, replay::number(line) as usize, part, place, v),
-        ),
-        b's' => with_primary(r, shown::parts::set_part(p, part, place, v)),
-        _ => {
-            let mut next = r;
-            next.serial = part as u64 * 4294967296 + place as u64;
-            next
+// What is set before the next call: nothing is printed, and where it is of the bank, the list is empty again.
+fn set(r: &mut Run, line: &Line) {
+    match line.letter() {
+        b'S' => {
+            parts::set_part(&mut r.bank, line);
+            r.marks = none_listed();
         }
+        b'T' => {
+            set_rival(&mut r.bank, line);
+            r.marks = none_listed();
+        }
+        b's' => shown::parts::set_part(&mut r.primary, line),
+        _ => r.serial = u64::from(line.first()) * 4294967296 + u64::from(line.second()),
     }
-}
-
-// A mark put on the list.
-fn listed(r: Run, x: f32) -> Run {
-    let mut next = r;
-    let n = r.count;
-    if n < 13 {
-        next.marks[n] = x;
-        next.count = n + 1;
-    }
-    next
 }
 
 // A call of the bank.
-fn call<W: Write>(out: &mut W, r: Run, line: &[u8; 31], letter: u8) -> io::Result<Run> {
+fn call<W: Write>(out: &mut W, r: &mut Run, line: &Line) -> io::Result<()> {
+    let letter = line.letter();
     let b = r.bank;
     let p = r.primary;
-    let x = float(replay::first(line));
-    let on = replay::number(line) == 1;
+    let x = line.float();
+    let n = line.first() as usize;
+    let on = line.flag();
     match letter {
-        b'N' => heard(
-            out,
-            letter,
-            r,
-            calls::hullathan_bank_new(replay::first(line) as usize, on),
-        ),
-        b'M' => answered(out, letter, r, calls::hullathan_bank_on_mark(b, p, x, on)),
-        b'G' => heard(out, letter, r, calls::hullathan_bank_on_gap(b, p, x)),
-        b'R' => on_ready(out, r),
-        b'C' => answered(out, letter, r, calls::hullathan_bank_clear(b)),
-        b'X' => switched(
-            out,
-            r,
-            calls::hullathan_bank_take_switch_by_value(b, p, r.serial),
-        ),
-        b'V' => {
-            put_readings(out, b, replay::first(line) as usize)?;
-            Ok(r)
+        b'N' => heard(out, r, letter, calls::hullathan_bank_new(n, on)),
+        b'M' => answered(out, r, letter, calls::hullathan_bank_on_mark(b, p, x, on)),
+        b'G' => heard(out, r, letter, calls::hullathan_bank_on_gap(b, p, x)),
+        b'R' => {
+            let a = calls::hullathan_bank_on_ready(b, p, &r.marks.at[..r.marks.len]);
+            answered(out, r, letter, a)
         }
-        _ => {
-            put_all(out, r)?;
-            Ok(r)
+        b'C' => answered(out, r, letter, calls::hullathan_bank_clear(b)),
+        b'X' => {
+            let a = calls::hullathan_bank_take_switch_by_value(b, p, r.serial);
+            switched(out, r, a)
         }
+        b'V' => put_readings(out, b, n),
+        _ => put_all(out, r),
     }
 }
 
-// One line: what is printed of it, and what is kept.
-fn turn<W: Write>(out: &mut W, r: Run, line: &[u8; 31]) -> io::Result<Run> {
-    let letter = replay::letter(line);
-    match letter {
-        b'L' => Ok(listed(r, float(replay::first(line)))),
-        b'S' | b'T' | b's' | b'I' => Ok(set(r, line, letter)),
-        b'm' | b'g' | b'w' | b'f' | b'n' => primary_call(
-            out,
-            r,
-            letter,
-            float(replay::first(line)),
-        ),
-        _ => call(out, r, line, letter),
+// One line.
+fn turn<W: Write>(out: &mut W, r: &mut Run, line: &Line) -> io::Result<()> {
+    match line.letter() {
+        b'L' => {
+            r.marks = listed(r.marks, line.float());
+            Ok(())
+        }
+        b'S' | b'T' | b's' | b'I' => {
+            set(r, line);
+            Ok(())
+        }
+        b'm' | b'g' | b'w' | b'f' | b'n' => primary_call(out, &mut r.primary, line),
+        _ => call(out, r, line),
     }
-}
-
-#[derive(Clone, Copy)]
-struct After {
-    run: Run,
-    more: bool,
-}
-
-fn step<I: Read, W: Write>(input: &mut I, out: &mut W, r: Run) -> io::Result<After> {
-    let mut line = [0u8; 31];
-    if replay::next(input, &mut line)? {
-        let next = turn(out, r, &line)?;
-        return Ok(After {
-            run: next,
-            more: true,
-        });
-    }
-    Ok(After {
-        run: r,
-        more: false,
-    })
 }
 
 fn first_run() -> Run {
-    let h = calls::hullathan_bank_new(1, false);
-    let bank = h.bank;
     Run {
-        bank,
+        bank: calls::hullathan_bank_new(1, false).bank,
         primary: trackers::hullathan_tracker_new(),
         serial: 0,
-        marks: [0.0; 13],
-        count: 0,
+        marks: none_listed(),
     }
 }
 
-// A proved loop has to end, so the turns are counted: no run uses them up.
 fn main(rt: HostRuntime) -> io::Result<()> {
-    let mut input = rt.stdin();
     let mut out = BufWriter::new(rt.alloc(), rt.stdout())?;
-    let mut r = first_run();
-    for _ in 0..u64::MAX {
-        let s = step(&mut input, &mut out, r)?;
-        r = s.run;
-        if !s.more {
-            break;
-        }
-    }
-    out.flush()
+    replay::run(&mut rt.stdin(), &mut out, &mut first_run(), turn)
 }

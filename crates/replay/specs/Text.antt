@@ -1,5 +1,6 @@
 -- Numbers as text, as the lines of a script have them and as the programs print them. Definitions only.
-use Rattle.std.specs.Prelude.{◌&&◌, cond, List, [], ◌∷◌, ℕ, zero, suc, ◌+◌, ◌-◌, ◌*◌, ◌/◌, ◌%◌, ◌^◌, nat_le, nat_lt, slice_index}
+use Rattle.std.specs.Prelude.{◌&&◌, cond, List, [], ◌∷◌, ℕ, zero, suc, ◌+◌, ◌-◌, ◌*◌, ◌/◌, ◌%◌, ◌^◌, nat_le, nat_lt}
+use Rattle.std.specs.Prelude.{slice_index}
 
 -- ---- read
 

@@ -3,59 +3,96 @@
 // A line has 31 bytes: a letter, a digit and three fields of 8 hexadecimal digits, parted by blanks, and the newline.
 #![tactic(auto)]
 
-ghost use Rattle.std.specs.Prelude.{◌≡◌, ◌≢◌, ◌<◌, ◌≤◌, ◌+◌, ◌*◌, ◌∷◌, [], true, OnOk, IfOk, cond, slice_index};
+ghost use Rattle.std.specs.Prelude.{◌++◌, ◌/◌, ◌%◌, ◌≡◌, ◌==◌, ◌<◌, ◌≤◌, ◌+◌, ◌*◌, ◌∷◌};
+ghost use Rattle.std.specs.Prelude.{[], OnOk, IfOk, IfSome, cond, slice_index};
 ghost use Rattle.std.specs.Float.Ieee.{binary32, is_nan, to_bits};
 ghost use Rattle.std.specs.Io.KnownBytes.{Appends, Consumes};
-ghost use Rattle.replay.specs.Text.{digit_of, field_of, glyph_of, number_at};
+ghost use Rattle.replay.specs.Text.{digit_of, field_of, number_at};
 
 use std::io;
 use std::io::{ErrorKind, Read, Write};
 
-// Reads the next line; whether there is one.
-pub fn next<R: Read>(input: &mut R, line: &mut [u8; 31]) -> io::Result<bool>
-    ensures { IfOk result (λ is. is ≡ true → Consumes (R.remaining input.old) (R.remaining input.new) line.new) }
-{
-    match input.read_exact(line) {
-        Ok(()) => Ok(true),
-        Err(e) => {
-            if e.kind() == ErrorKind::UnexpectedEof {
-                Ok(false)
-            } else {
-                Err(e)
-            }
-        }
+// A line as it was read.
+#[derive(Clone, Copy)]
+pub struct Line {
+    pub bytes: [u8; 31],
+}
+
+impl Line {
+    // The letter, the digit and the fields.
+    pub fn letter(&self) -> u8
+        ensures { result ≡ slice_index self.now.bytes 0 }
+    {
+        self.bytes[0]
+    }
+
+    pub fn number(&self) -> u8
+        ensures { result ≡ digit_of (slice_index self.now.bytes 2) }
+    {
+        digit(self.bytes[2])
+    }
+
+    // Whether the digit is 1.
+    pub fn flag(&self) -> bool
+        ensures { result ≡ (digit_of (slice_index self.now.bytes 2) == 1) }
+    {
+        self.number() == 1
+    }
+
+    pub fn first(&self) -> u32
+        ensures { result ≡ number_at 8 self.now.bytes 4 }
+    {
+        word(&self.bytes, 4)
+    }
+
+    pub fn second(&self) -> u32
+        ensures { result ≡ number_at 8 self.now.bytes 13 }
+    {
+        word(&self.bytes, 13)
+    }
+
+    pub fn third(&self) -> u32
+        ensures { result ≡ number_at 8 self.now.bytes 22 }
+    {
+        word(&self.bytes, 22)
+    }
+
+    // The first field as a float: most calls have that and nothing else.
+    pub fn float(&self) -> f32 {
+        float(self.first())
     }
 }
 
-// The letter, the digit and the fields of a line.
-pub fn letter(line: &[u8; 31]) -> u8
-    ensures { result ≡ slice_index line.now 0 }
+// Reads the next line, where there is one.
+pub fn next<R: Read>(input: &mut R) -> io::Result<Option<Line>>
+    ensures { IfOk result (λ line. IfSome line (λ l.
+        Consumes (R.remaining input.old) (R.remaining input.new) l.bytes)) }
 {
-    line[0]
+    let mut bytes = [0; 31];
+    match input.read_exact(&mut bytes) {
+        Ok(()) => Ok(Some(Line { bytes })),
+        Err(e) if e.kind() == ErrorKind::UnexpectedEof => Ok(None),
+        Err(e) => Err(e),
+    }
 }
 
-pub fn number(line: &[u8; 31]) -> u8
-    ensures { result ≡ digit_of (slice_index line.now 2) }
+// Hands each line to turn, with what is kept from one to the next, until there is none. A proved loop has to end, and
+// nothing says that an input does: the loop counts its turns, and no run uses them up.
+pub fn run<R: Read, W: Write, S, F: Fn(&mut W, &mut S, &Line) -> io::Result<()>>(
+    input: &mut R,
+    out: &mut W,
+    state: &mut S,
+    turn: F,
+) -> io::Result<()>
+    requires { F.IsAlwaysCallable turn }
 {
-    digit(line[2])
-}
-
-pub fn first(line: &[u8; 31]) -> u32
-    ensures { result ≡ number_at 8 line.now 4 }
-{
-    word(line, 4)
-}
-
-pub fn second(line: &[u8; 31]) -> u32
-    ensures { result ≡ number_at 8 line.now 13 }
-{
-    word(line, 13)
-}
-
-pub fn third(line: &[u8; 31]) -> u32
-    ensures { result ≡ number_at 8 line.now 22 }
-{
-    word(line, 22)
+    for _ in 0..u64::MAX {
+        match next(input)? {
+            Some(line) => turn(out, state, &line)?,
+            None => break,
+        }
+    }
+    out.flush()
 }
 
 // The value of a digit; of any other byte, 0.
@@ -63,37 +100,11 @@ fn digit(b: u8) -> u8
     ensures bound { result < 16 }
     ensures value { result ≡ digit_of b }
 {
-    if b < b'0' {
-        return 0;
+    match b {
+        b'0'..=b'9' => b - b'0',
+        b'A'..=b'F' => b - b'A' + 10,
+        _ => 0,
     }
-    if b <= b'9' {
-        return b - b'0';
-    }
-    if b < b'A' {
-        return 0;
-    }
-    if b <= b'F' {
-        return b - 55;
-    }
-    0
-}
-
-// Two digits.
-fn pair(a: u8, b: u8) -> u32
-    ensures bound { result < 256 }
-    ensures value { result ≡ 16 * digit_of a + digit_of b }
-{
-    let high = digit(a) as u32;
-    let low = digit(b) as u32;
-    high * 16 + low
-}
-
-// Four digits.
-fn half(a: u8, b: u8, c: u8, d: u8) -> u32
-    ensures bound { result < 65536 }
-    ensures value { result ≡ 16 * (16 * (16 * digit_of a + digit_of b) + digit_of c) + digit_of d }
-{
-    pair(a, b) * 256 + pair(c, d)
 }
 
 // The field of 8 digits that begins at a place of the line.
@@ -101,26 +112,20 @@ fn word(line: &[u8; 31], at: usize) -> u32
     requires { at + 8 ≤ 31 }
     ensures { result ≡ number_at 8 line.now at }
 {
-    let high = half(line[at], line[at + 1], line[at + 2], line[at + 3]);
-    let low = half(line[at + 4], line[at + 5], line[at + 6], line[at + 7]);
-    high * 65536 + low
+    let mut n = 0;
+    for b in &line[at..at + 8] {
+        n = n * 16 + u32::from(digit(*b));
+    }
+    n
 }
 
 // The float of a pattern; of every pattern of a NaN, one NaN.
 pub fn float(bits: u32) -> f32 {
     if bits % 0x8000_0000 > 0x7f80_0000 {
-        return 0.0 / 0.0;
+        f32::NAN
+    } else {
+        f32::from_bits(bits)
     }
-    f32::from_bits(bits)
-}
-
-// The digit of a value below 16.
-fn glyph(d: u32) -> u8
-    requires { d < 16 }
-    ensures { result ≡ glyph_of d }
-{
-    let digits = b"0123456789ABCDEF";
-    digits[d as usize]
 }
 
 pub fn put_byte<W: Write>(out: &mut W, b: u8) -> io::Result<()>
@@ -133,18 +138,16 @@ pub fn put_byte<W: Write>(out: &mut W, b: u8) -> io::Result<()>
 pub fn put_word<W: Write>(out: &mut W, v: u32) -> io::Result<()>
     ensures { OnOk result (Appends (W.contents out.old) (W.contents out.new) (field_of 8 v)) }
 {
-    let text = [
-        b' ',
-        glyph(v / 0x1000_0000),
-        glyph(v / 0x100_0000 % 16),
-        glyph(v / 0x10_0000 % 16),
-        glyph(v / 0x1_0000 % 16),
-        glyph(v / 0x1000 % 16),
-        glyph(v / 0x100 % 16),
-        glyph(v / 0x10 % 16),
-        glyph(v % 16),
-    ];
-    out.write_all(&text)
+    write!(out, " {v:08X}")
+}
+
+// A number of 64 bits, its upper half first.
+pub fn put_long<W: Write>(out: &mut W, n: u64) -> io::Result<()>
+    ensures { OnOk result (Appends (W.contents out.old) (W.contents out.new)
+        (field_of 8 (n / 4294967296) ++ field_of 8 (n % 4294967296))) }
+{
+    put_word(out, (n / 4294967296) as u32)?;
+    put_word(out, (n % 4294967296) as u32)
 }
 
 // A float's pattern; a NaN has one.
@@ -163,9 +166,7 @@ pub fn put_float<W: Write>(out: &mut W, v: f32) -> io::Result<()>
 pub fn put_code<W: Write>(out: &mut W, code: u8) -> io::Result<()>
     ensures { OnOk result (Appends (W.contents out.old) (W.contents out.new) (field_of 2 code)) }
 {
-    let v = code as u32;
-    let text = [b' ', glyph(v / 16), glyph(v % 16)];
-    out.write_all(&text)
+    write!(out, " {code:02X}")
 }
 
 // A blank, and 1 for yes.
@@ -174,4 +175,14 @@ pub fn put_flag<W: Write>(out: &mut W, is: bool) -> io::Result<()>
 {
     let text = [b' ', if is { b'1' } else { b'0' }];
     out.write_all(&text)
+}
+
+// The start of an answer: its letter, its code, and whether it says yes.
+pub fn put_answer<W: Write>(out: &mut W, letter: u8, code: u8, yes: bool) -> io::Result<()>
+    ensures { OnOk result (Appends (W.contents out.old) (W.contents out.new)
+        (letter ∷ field_of 2 code ++ 32 ∷ cond yes 49 48 ∷ [])) }
+{
+    put_byte(out, letter)?;
+    put_code(out, code)?;
+    put_flag(out, yes)
 }

@@ -6,10 +6,10 @@
 #![tactic(auto)]
 
 use exports::of_sender as calls;
-use replay::{float, put_byte, put_float, put_word};
+use replay::{Line, float, put_answer, put_byte, put_float, put_word};
 use sender::{ClassStats, Dits, SenderTiming, TimingClass};
 use std::io;
-use std::io::{BufWriter, Read, Write};
+use std::io::{BufWriter, Write};
 
 // A class: its mean, its variance, its count.
 fn put_class<W: Write>(out: &mut W, c: ClassStats) -> io::Result<()> {
@@ -26,104 +26,89 @@ fn put_classes<W: Write>(out: &mut W, t: SenderTiming) -> io::Result<()> {
     Ok(())
 }
 
-// The start of an answer: letter, code, whether there is a number or yes, and the number.
-fn put_answer<W: Write>(
-    out: &mut W,
-    letter: u8,
-    code: u8,
-    has: bool,
-    value: f32,
-) -> io::Result<()> {
-    put_byte(out, letter)?;
-    replay::put_code(out, code)?;
-    replay::put_flag(out, has)?;
-    put_float(out, value)
+// The answer of a call that tells its code alone.
+fn put_told<W: Write>(out: &mut W, letter: u8, code: u8) -> io::Result<()> {
+    put_answer(out, letter, code, false)?;
+    put_float(out, 0.0)
 }
 
 // A call that reads a number.
 fn put_number<W: Write>(out: &mut W, letter: u8, n: calls::SenderNumber) -> io::Result<()> {
-    put_answer(out, letter, n.code, n.has, n.value)
+    put_answer(out, letter, n.code, n.has)?;
+    put_float(out, n.value)
 }
 
 fn put_pause<W: Write>(out: &mut W, t: SenderTiming, dits: f32) -> io::Result<()> {
     let r = calls::hullathan_sender_is_pause_by_value(t, dits);
-    put_answer(out, b'P', r.code, r.yes, 0.0)
+    put_answer(out, b'P', r.code, r.yes)?;
+    put_float(out, 0.0)
 }
 
 fn put_report<W: Write>(out: &mut W, t: SenderTiming, dit_ms: f32) -> io::Result<()> {
     let r = calls::hullathan_sender_estimates(t, dit_ms);
-    put_answer(out, b'E', r.code, false, r.dit_ms)?;
+    put_answer(out, b'E', r.code, false)?;
+    put_float(out, r.dit_ms)?;
     put_classes(out, r.classes)
 }
 
 // A call that only reads.
-fn read_call<W: Write>(
-    out: &mut W,
-    t: SenderTiming,
-    letter: u8,
-    class: u8,
-    x: f32,
-) -> io::Result<()> {
+fn read_call<W: Write>(out: &mut W, t: SenderTiming, line: &Line) -> io::Result<()> {
+    let letter = line.letter();
     match letter {
-        b'M' => put_number(out, letter, calls::hullathan_sender_mean_dits(t, class)),
+        b'M' => put_number(
+            out,
+            letter,
+            calls::hullathan_sender_mean_dits(t, line.number()),
+        ),
         b'R' => put_number(out, letter, calls::hullathan_sender_dash_dot_ratio(t)),
         b'W' => put_number(out, letter, calls::hullathan_sender_word_dits(t)),
-        b'P' => put_pause(out, t, x),
-        _ => put_report(out, t, x),
+        b'P' => put_pause(out, t, line.float()),
+        _ => put_report(out, t, line.float()),
     }
 }
 
-// One line.
-fn run<W: Write>(out: &mut W, t: &mut SenderTiming, line: &[u8; 31]) -> io::Result<()> {
-    let letter = replay::letter(line);
-    let class = replay::number(line);
-    let x = float(replay::first(line));
-    let y = float(replay::second(line));
+// A class set.
+fn set(t: &mut SenderTiming, line: &Line) {
+    if let Ok(class) = TimingClass::try_from(line.number()) {
+        t[class] = ClassStats {
+            mean: Dits(line.float()),
+            var: float(line.second()),
+            n: line.third(),
+        };
+    }
+}
+
+// One call.
+fn call<W: Write>(out: &mut W, t: &mut SenderTiming, line: &Line) -> io::Result<()> {
+    let letter = line.letter();
     match letter {
         b'O' => {
-            let r = calls::hullathan_sender_observe_by_value(*t, class, x, y);
+            let (x, y) = (line.float(), float(line.second()));
+            let r = calls::hullathan_sender_observe_by_value(*t, line.number(), x, y);
             *t = r.timing;
-            put_answer(out, letter, r.code, false, 0.0)
+            put_told(out, letter, r.code)
         }
         b'S' => {
-            if let Ok(named) = TimingClass::try_from(class) {
-                t[named] = ClassStats {
-                    mean: Dits(x),
-                    var: y,
-                    n: replay::third(line),
-                };
-            }
-            put_answer(out, letter, 0, false, 0.0)
+            set(t, line);
+            put_told(out, letter, 0)
         }
         b'N' => {
             *t = calls::hullathan_sender_new();
-            put_answer(out, letter, 0, false, 0.0)
+            put_told(out, letter, 0)
         }
-        _ => read_call(out, *t, letter, class, x),
+        _ => read_call(out, *t, line),
     }
 }
 
-// One line in and one out; whether there was a line.
-fn step<I: Read, W: Write>(input: &mut I, out: &mut W, t: &mut SenderTiming) -> io::Result<bool> {
-    let mut line = [0u8; 31];
-    if !replay::next(input, &mut line)? {
-        return Ok(false);
-    }
-    run(out, t, &line)?;
+// One line in and one out.
+fn turn<W: Write>(out: &mut W, t: &mut SenderTiming, line: &Line) -> io::Result<()> {
+    call(out, t, line)?;
     put_classes(out, *t)?;
-    put_byte(out, b'\n')?;
-    Ok(true)
+    put_byte(out, b'\n')
 }
 
-// A proved loop has to end, so the turns are counted: no run uses them up.
 fn main(rt: HostRuntime) -> io::Result<()> {
-    let mut input = rt.stdin();
     let mut out = BufWriter::new(rt.alloc(), rt.stdout())?;
-    let mut t = calls::hullathan_sender_new();
-    for _ in 0..u64::MAX {
-        if !step(&mut input, &mut out, &mut t)? {
-            break;
-        }
-    }
-    out.flush()
+    let mut timing = calls::hullathan_sender_new();
+    replay::run(&mut rt.stdin(), &mut out, &mut timing, turn)
 }

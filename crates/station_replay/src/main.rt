@@ -5,23 +5,14 @@
 // live; its kind, its number), A shows the rivals and the primary whole.
 #![tactic(auto)]
 
-use bank_model::MOST_LEFT;
 use hullathan::call::called;
 use hullathan::start::started;
-use plain::{PlainBank, PlainDeparture, PlainHypothesis};
+use plain::{PlainBank, PlainHypothesis};
 use plain_station::PlainStation;
-use plain_tracker::from::tracker_of;
-use plain_tracker::to::number_of;
-use replay::{float, put_byte, put_code, put_flag, put_float, put_word};
-use shown::{put_count, put_tracker};
+use replay::{Line, float, put_byte, put_code, put_flag, put_float, put_long, put_word};
+use shown::{put_count, put_departure, put_list, put_tracker};
 use std::io;
-use std::io::{BufWriter, Read, Write};
-
-// A number of 64 bits, its upper half first.
-fn put_long<W: Write>(out: &mut W, n: u64) -> io::Result<()> {
-    put_word(out, (n / 4294967296) as u32)?;
-    put_word(out, (n % 4294967296) as u32)
-}
+use std::io::{BufWriter, Write};
 
 // What of a bank changes most.
 fn put_bank<W: Write>(out: &mut W, b: PlainBank) -> io::Result<()> {
@@ -56,31 +47,6 @@ fn put_books<W: Write>(out: &mut W, s: PlainStation) -> io::Result<()> {
     put_byte(out, b'\n')
 }
 
-fn put_departure<W: Write>(
-    out: &mut W,
-    left: [PlainDeparture; MOST_LEFT],
-    i: usize,
-    n: usize,
-) -> io::Result<()> {
-    if i < n {
-        if i < MOST_LEFT {
-            let d = left[i];
-            put_long(out, d.serial)?;
-            put_code(out, d.cause)?;
-        }
-    }
-    Ok(())
-}
-
-// Those that left.
-fn put_left<W: Write>(out: &mut W, left: [PlainDeparture; MOST_LEFT], n: usize) -> io::Result<()> {
-    put_count(out, n)?;
-    for i in 0..MOST_LEFT {
-        put_departure(out, left, i, n)?;
-    }
-    Ok(())
-}
-
 fn put_rival<W: Write>(out: &mut W, h: PlainHypothesis) -> io::Result<()> {
     put_long(out, h.serial)?;
     put_float(out, h.score)?;
@@ -92,49 +58,31 @@ fn put_rival<W: Write>(out: &mut W, h: PlainHypothesis) -> io::Result<()> {
     put_code(out, h.reported)?;
     put_float(out, h.ln_lo)?;
     put_float(out, h.ln_hi)?;
-    let t = h.tracker;
-    put_tracker(out, tracker_of(t))
-}
-
-fn put_rival_at<W: Write>(out: &mut W, s: PlainStation, i: usize) -> io::Result<()> {
-    let b = s.bank;
-    if i < b.challengers_len {
-        if i < 8 {
-            let h = b.challengers[i];
-            put_rival(out, h)?;
-        }
-    }
-    Ok(())
+    put_tracker(out, h.tracker)
 }
 
 // The primary and its rivals.
 fn put_all<W: Write>(out: &mut W, s: PlainStation) -> io::Result<()> {
     put_byte(out, b'A')?;
-    let p = s.primary;
-    put_tracker(out, tracker_of(p))?;
-    for i in 0..8 {
-        put_rival_at(out, s, i)?;
+    put_tracker(out, s.primary)?;
+    for h in s.bank.challengers.iter().take(s.bank.challengers_len) {
+        put_rival(out, *h)?;
     }
     put_byte(out, b'\n')
 }
 
-fn start<W: Write>(out: &mut W, width: u32, switching: bool) -> io::Result<PlainStation> {
-    let a = started(width as usize, number_of(switching));
+fn start<W: Write>(out: &mut W, s: &mut PlainStation, line: &Line) -> io::Result<()> {
+    let a = started(line.first() as usize, u8::from(line.flag()));
+    *s = a.station;
     put_byte(out, b'W')?;
     put_code(out, a.code % 128)?;
-    let s = a.station;
-    put_books(out, s)?;
-    Ok(s)
+    put_books(out, *s)
 }
 
-fn call<W: Write>(
-    out: &mut W,
-    s: PlainStation,
-    kind: u32,
-    value: f32,
-    live: bool,
-) -> io::Result<PlainStation> {
-    let c = called(s, (kind % 256) as u8, number_of(live), value);
+fn call<W: Write>(out: &mut W, s: &mut PlainStation, line: &Line) -> io::Result<()> {
+    let kind = (line.first() % 256) as u8;
+    let c = called(*s, kind, u8::from(line.flag()), float(line.second()));
+    *s = c.station;
     let a = c.answer;
     put_byte(out, b'E')?;
     put_flag(out, a.code >= 128)?;
@@ -143,64 +91,21 @@ fn call<W: Write>(
     put_float(out, a.dah_ms)?;
     put_long(out, a.serial)?;
     put_count(out, a.challengers)?;
-    let left = a.left;
-    put_left(out, left, a.left_len)?;
-    let next = c.station;
-    put_books(out, next)?;
-    Ok(next)
+    put_list(out, &a.left, a.left_len, put_departure)?;
+    put_books(out, *s)
 }
 
-// One line: what is printed of it, and the station after it.
-fn turn<W: Write>(out: &mut W, s: PlainStation, line: &[u8; 31]) -> io::Result<PlainStation> {
-    let on = replay::number(line) == 1;
-    let a = replay::first(line);
-    match replay::letter(line) {
-        b'W' => start(out, a, on),
-        b'E' => call(out, s, a, float(replay::second(line)), on),
-        _ => {
-            put_all(out, s)?;
-            Ok(s)
-        }
+// One line in and one out.
+fn turn<W: Write>(out: &mut W, s: &mut PlainStation, line: &Line) -> io::Result<()> {
+    match line.letter() {
+        b'W' => start(out, s, line),
+        b'E' => call(out, s, line),
+        _ => put_all(out, *s),
     }
 }
 
-#[derive(Clone, Copy)]
-struct After {
-    station: PlainStation,
-    more: bool,
-}
-
-fn step<I: Read, W: Write>(input: &mut I, out: &mut W, s: PlainStation) -> io::Result<After> {
-    let mut line = [0u8; 31];
-    if replay::next(input, &mut line)? {
-        let next = turn(out, s, &line)?;
-        return Ok(After {
-            station: next,
-            more: true,
-        });
-    }
-    Ok(After {
-        station: s,
-        more: false,
-    })
-}
-
-fn first_station() -> PlainStation {
-    let a = started(1, 0);
-    a.station
-}
-
-// A proved loop has to end, so the turns are counted: no run uses them up.
 fn main(rt: HostRuntime) -> io::Result<()> {
-    let mut input = rt.stdin();
     let mut out = BufWriter::new(rt.alloc(), rt.stdout())?;
-    let mut station = first_station();
-    for _ in 0..u64::MAX {
-        let a = step(&mut input, &mut out, station)?;
-        station = a.station;
-        if !a.more {
-            break;
-        }
-    }
-    out.flush()
+    let mut station = started(1, 0).station;
+    replay::run(&mut rt.stdin(), &mut out, &mut station, turn)
 }

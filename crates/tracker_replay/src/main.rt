@@ -8,34 +8,26 @@
 #![tactic(auto)]
 
 use exports::of_tracker as calls;
-use replay::{float, put_byte, put_code, put_flag, put_float, put_word};
+use plain_tracker::PlainTracker;
+use replay::{Line, put_answer, put_byte, put_code, put_flag, put_float, put_word};
 use shown::parts::set_part;
-use shown::put_tracker;
+use shown::{Listed, listed, none_listed, put_tracker};
 use std::io;
-use std::io::{BufWriter, Read, Write};
-use tracker::SpeedTracker;
+use std::io::{BufWriter, Write};
 
 // A tracker, and the gaps that the next list has.
 #[derive(Clone, Copy)]
 struct Run {
-    tracker: SpeedTracker,
-    gaps: [f32; 13],
-    count: usize,
+    tracker: PlainTracker,
+    gaps: Listed,
 }
 
-// The start of an answer: letter, code, and whether it said yes.
-fn put_answer<W: Write>(out: &mut W, letter: u8, code: u8, yes: bool) -> io::Result<()> {
-    put_byte(out, letter)?;
-    put_code(out, code)?;
-    put_flag(out, yes)
-}
-
-fn told<W: Write>(out: &mut W, letter: u8, r: calls::TrackerTold) -> io::Result<SpeedTracker> {
+fn told<W: Write>(out: &mut W, letter: u8, r: calls::TrackerTold) -> io::Result<PlainTracker> {
     put_answer(out, letter, r.code, false)?;
     Ok(r.tracker)
 }
 
-fn said<W: Write>(out: &mut W, letter: u8, r: calls::TrackerFlagged) -> io::Result<SpeedTracker> {
+fn said<W: Write>(out: &mut W, letter: u8, r: calls::TrackerFlagged) -> io::Result<PlainTracker> {
     put_answer(out, letter, r.code, r.yes)?;
     Ok(r.tracker)
 }
@@ -47,7 +39,7 @@ fn put_number<W: Write>(out: &mut W, n: calls::TrackerNumber) -> io::Result<()> 
 }
 
 // Every call that only reads.
-fn put_readings<W: Write>(out: &mut W, t: SpeedTracker) -> io::Result<()> {
+fn put_readings<W: Write>(out: &mut W, t: PlainTracker) -> io::Result<()> {
     let ready = calls::hullathan_tracker_ready(t);
     put_answer(out, b'V', ready.code, ready.yes)?;
     let regime = calls::hullathan_tracker_regime(t);
@@ -62,12 +54,9 @@ fn put_readings<W: Write>(out: &mut W, t: SpeedTracker) -> io::Result<()> {
 }
 
 // A call with one number.
-fn number_call<W: Write>(
-    out: &mut W,
-    t: SpeedTracker,
-    letter: u8,
-    x: f32,
-) -> io::Result<SpeedTracker> {
+fn number_call<W: Write>(out: &mut W, t: PlainTracker, line: &Line) -> io::Result<PlainTracker> {
+    let letter = line.letter();
+    let x = line.float();
     match letter {
         b'M' => told(out, letter, calls::hullathan_tracker_on_mark(t, x)),
         b'G' => told(out, letter, calls::hullathan_tracker_on_element_gap(t, x)),
@@ -77,7 +66,7 @@ fn number_call<W: Write>(
 }
 
 // A call with none.
-fn plain_call<W: Write>(out: &mut W, t: SpeedTracker, letter: u8) -> io::Result<SpeedTracker> {
+fn plain_call<W: Write>(out: &mut W, t: PlainTracker, letter: u8) -> io::Result<PlainTracker> {
     match letter {
         b'F' => said(out, letter, calls::hullathan_tracker_bootstrap(t)),
         b'T' => said(
@@ -102,107 +91,44 @@ fn plain_call<W: Write>(out: &mut W, t: SpeedTracker, letter: u8) -> io::Result<
 }
 
 // The call with the list.
-fn list_call<W: Write>(
-    out: &mut W,
-    t: SpeedTracker,
-    gaps: &[f32],
-    n: usize,
-) -> io::Result<SpeedTracker> {
-    if n <= gaps.len() {
-        let r = calls::hullathan_tracker_resolve_unimodal_bootstrap(t, &gaps[..n]);
-        return said(out, b'U', r);
-    }
-    Ok(t)
-}
-
-fn resolve<W: Write>(out: &mut W, r: Run) -> io::Result<SpeedTracker> {
-    let t = r.tracker;
-    let gaps = r.gaps;
-    list_call(out, t, &gaps, r.count)
-}
-
-// A gap put on the list.
-fn listed(r: Run, x: f32) -> Run {
-    let mut next = r;
-    let n = r.count;
-    if n < 13 {
-        next.gaps[n] = x;
-        next.count = n + 1;
-    }
-    next
+fn resolve<W: Write>(out: &mut W, r: Run) -> io::Result<PlainTracker> {
+    let gaps = &r.gaps.at[..r.gaps.len];
+    let answer = calls::hullathan_tracker_resolve_unimodal_bootstrap(r.tracker, gaps);
+    said(out, b'U', answer)
 }
 
 // One call: the tracker after it.
-fn call<W: Write>(out: &mut W, r: Run, line: &[u8; 31], letter: u8) -> io::Result<SpeedTracker> {
-    let t = r.tracker;
-    match letter {
-        b'M' | b'G' | b'W' | b'H' => number_call(out, t, letter, float(replay::first(line))),
+fn call<W: Write>(out: &mut W, r: Run, line: &Line) -> io::Result<PlainTracker> {
+    let mut t = r.tracker;
+    match line.letter() {
+        b'M' | b'G' | b'W' | b'H' => number_call(out, t, line),
         b'U' => resolve(out, r),
         b'S' => {
-            put_answer(out, letter, 0, false)?;
-            Ok(set_part(
-                t,
-                replay::first(line),
-                replay::second(line),
-                replay::third(line),
-            ))
+            set_part(&mut t, line);
+            put_answer(out, b'S', 0, false)?;
+            Ok(t)
         }
-        _ => plain_call(out, t, letter),
+        letter => plain_call(out, t, letter),
     }
 }
 
-// One line: what is printed of it, and what is kept.
-fn turn<W: Write>(out: &mut W, r: Run, line: &[u8; 31]) -> io::Result<Run> {
-    let letter = replay::letter(line);
-    if letter == b'L' {
-        return Ok(listed(r, float(replay::first(line))));
+// One line: a gap goes on the list, and every call empties it.
+fn turn<W: Write>(out: &mut W, r: &mut Run, line: &Line) -> io::Result<()> {
+    if line.letter() == b'L' {
+        r.gaps = listed(r.gaps, line.float());
+        return Ok(());
     }
-    let t = call(out, r, line, letter)?;
-    put_tracker(out, t)?;
-    put_byte(out, b'\n')?;
-    Ok(Run {
-        tracker: t,
-        gaps: [0.0; 13],
-        count: 0,
-    })
+    r.tracker = call(out, *r, line)?;
+    r.gaps = none_listed();
+    put_tracker(out, r.tracker)?;
+    put_byte(out, b'\n')
 }
 
-#[derive(Clone, Copy)]
-struct After {
-    run: Run,
-    more: bool,
-}
-
-fn step<I: Read, W: Write>(input: &mut I, out: &mut W, r: Run) -> io::Result<After> {
-    let mut line = [0u8; 31];
-    if replay::next(input, &mut line)? {
-        let next = turn(out, r, &line)?;
-        return Ok(After {
-            run: next,
-            more: true,
-        });
-    }
-    Ok(After {
-        run: r,
-        more: false,
-    })
-}
-
-// A proved loop has to end, so the turns are counted: no run uses them up.
 fn main(rt: HostRuntime) -> io::Result<()> {
-    let mut input = rt.stdin();
     let mut out = BufWriter::new(rt.alloc(), rt.stdout())?;
-    let mut r = Run {
+    let mut first = Run {
         tracker: calls::hullathan_tracker_new(),
-        gaps: [0.0; 13],
-        count: 0,
+        gaps: none_listed(),
     };
-    for _ in 0..u64::MAX {
-        let s = step(&mut input, &mut out, r)?;
-        r = s.run;
-        if !s.more {
-            break;
-        }
-    }
-    out.flush()
+    replay::run(&mut rt.stdin(), &mut out, &mut first, turn)
 }
