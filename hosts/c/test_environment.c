@@ -58,13 +58,6 @@ static void nan_mark(struct hullathan_station *s)
     hullathan_call(s, HULLATHAN_MARK, 1, float_of(0x7fc00000));
 }
 
-/* A mark that is infinite, on a fresh station. */
-static void infinite_mark(struct hullathan_station *s)
-{
-    hullathan_start(s, HULLATHAN_WIDEST, 1);
-    hullathan_call(s, HULLATHAN_MARK, 1, float_of(0x7f800000));
-}
-
 /* A watch with the register as given. */
 static void in(unsigned int mxcsr, watch *w, struct hullathan_station *s)
 {
@@ -139,13 +132,12 @@ static void subnormals(void)
     check(other.bank.primary_score == 0, "denormals-are-zero: none");
 }
 
-/* Exceptions that are not masked: a signal, in an ordinary watch and at an infinity; a NaN is found without one. */
+/* Exceptions that are not masked: a signal, in an ordinary watch and at a NaN. */
 static void exceptions(void)
 {
     check(signal_of(DEFAULT, keyed, in) == 0, "no signal");
     check(signal_of(NO_INEXACT, keyed, in) == SIGFPE, "inexact unmasked: SIGFPE in an ordinary watch");
-    check(signal_of(NONE_MASKED, infinite_mark, in) == SIGFPE, "none masked: SIGFPE at an infinity");
-    check(signal_of(NONE_MASKED, nan_mark, in) == 0, "none masked: no signal at a NaN");
+    check(signal_of(NONE_MASKED, nan_mark, in) == SIGFPE, "none masked: SIGFPE at a NaN");
 }
 
 /* Set and restored, all is as in the default environment. */

@@ -79,14 +79,6 @@ extern "C" fn nan_mark(station: &mut Station) {
     });
 }
 
-/// A mark that is infinite.
-extern "C" fn infinite_mark(station: &mut Station) {
-    let _ = station.call(Event::Mark {
-        ms: f32::INFINITY,
-        live: true,
-    });
-}
-
 extern "C" fn keyed_guarded(station: &mut Station) {
     let _default = Guard::set();
     keyed(station);
@@ -190,7 +182,6 @@ fn in_a_child() {
         "keyed" => keyed,
         "keyed guarded" => keyed_guarded,
         "nan" => nan_mark,
-        "infinite" => infinite_mark,
         _ => nan_mark_guarded,
     };
     within(mxcsr, watch, &mut fresh());
@@ -215,14 +206,12 @@ fn signal(mxcsr: u32, watch: &str) -> Option<i32> {
     status.signal()
 }
 
-/// Exceptions that are not masked: a signal in an ordinary watch and at an infinity, and none under a guard; a NaN is
-/// found without one.
+/// Exceptions that are not masked: a signal in an ordinary watch and at a NaN, and none under a guard.
 #[test]
 fn unmasked() {
     assert_eq!(signal(DEFAULT, "keyed"), None);
     assert_eq!(signal(NO_INEXACT, "keyed"), Some(SIGFPE));
-    assert_eq!(signal(NONE_MASKED, "infinite"), Some(SIGFPE));
-    assert_eq!(signal(NONE_MASKED, "nan"), None);
+    assert_eq!(signal(NONE_MASKED, "nan"), Some(SIGFPE));
     for mxcsr in [NO_INEXACT, NONE_MASKED] {
         assert_eq!(signal(mxcsr, "keyed guarded"), None);
         assert_eq!(signal(mxcsr, "nan guarded"), None);
