@@ -3,7 +3,8 @@ use bank_model::SwitchRecord;
 use plain::{PlainBank, PlainHypothesis};
 use plain_tracker::from::flag_of;
 use replay::{put_code, put_flag, put_float, put_long, put_word};
-use shown::{put_count, put_held, put_list, put_tracker};
+use shown::inner::{put_held, put_list};
+use shown::{put_count, put_tracker};
 use std::io;
 use std::io::Write;
 

@@ -13,7 +13,8 @@ use exports::{of_bank as calls, of_tracker as trackers};
 use plain::PlainBank;
 use plain_tracker::PlainTracker;
 use replay::{Line, put_answer, put_byte, put_code, put_long};
-use shown::{Listed, listed, none_listed, put_departure, put_held, put_list, put_tracker};
+use shown::inner::{put_held, put_list};
+use shown::{Listed, listed, none_listed, put_departure, put_tracker};
 use std::io;
 use std::io::{BufWriter, Write};
 
@@ -218,5 +219,5 @@ fn first_run() -> Run {
 
 fn main(rt: HostRuntime) -> io::Result<()> {
     let mut out = BufWriter::new(rt.alloc(), rt.stdout())?;
-    replay::run(&mut rt.stdin(), &mut out, &mut first_run(), turn)
+    replay::inner::run(&mut rt.stdin(), &mut out, &mut first_run(), turn)
 }

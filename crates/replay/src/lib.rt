@@ -12,6 +12,8 @@ ghost use Rattle.replay.specs.Text.{digit_of, field_of, number_at};
 use std::io;
 use std::io::{ErrorKind, Read, Write};
 
+pub mod inner;
+
 // A line as it was read.
 #[derive(Clone, Copy)]
 pub struct Line {
@@ -74,25 +76,6 @@ pub fn next<R: Read>(input: &mut R) -> io::Result<Option<Line>>
         Err(e) if e.kind() == ErrorKind::UnexpectedEof => Ok(None),
         Err(e) => Err(e),
     }
-}
-
-// Hands each line to turn, with what is kept from one to the next, until there is none. A proved loop has to end, and
-// nothing says that an input does: the loop counts its turns, and no run uses them up.
-pub fn run<R: Read, W: Write, S, F: Fn(&mut W, &mut S, &Line) -> io::Result<()>>(
-    input: &mut R,
-    out: &mut W,
-    state: &mut S,
-    turn: F,
-) -> io::Result<()>
-    requires { F.IsAlwaysCallable turn }
-{
-    for _ in 0..u64::MAX {
-        match next(input)? {
-            Some(line) => turn(out, state, &line)?,
-            None => break,
-        }
-    }
-    out.flush()
 }
 
 // The value of a digit; of any other byte, 0.

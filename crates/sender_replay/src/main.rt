@@ -110,5 +110,5 @@ fn turn<W: Write>(out: &mut W, t: &mut SenderTiming, line: &Line) -> io::Result<
 fn main(rt: HostRuntime) -> io::Result<()> {
     let mut out = BufWriter::new(rt.alloc(), rt.stdout())?;
     let mut timing = calls::hullathan_sender_new();
-    replay::run(&mut rt.stdin(), &mut out, &mut timing, turn)
+    replay::inner::run(&mut rt.stdin(), &mut out, &mut timing, turn)
 }

@@ -2,6 +2,7 @@
 // their counts before them, absent numbers left out; a part of one set; and the marks that a script lists.
 #![tactic(auto)]
 
+use inner::{put_held, put_list};
 use marks::List;
 use pair::ClusterPair;
 use plain::PlainDeparture;
@@ -12,6 +13,7 @@ use ring::RingEntry;
 use std::io;
 use std::io::Write;
 
+pub mod inner;
 pub mod parts;
 
 // The marks or the gaps of the next call, one more than a call takes.
@@ -32,37 +34,6 @@ pub fn listed(list: Listed, x: f32) -> Listed {
 // A count; none here is above 32 bits.
 pub fn put_count<W: Write>(out: &mut W, n: usize) -> io::Result<()> {
     put_word(out, (n % 4294967296) as u32)
-}
-
-// Whether there is one, and where there is, the one.
-pub fn put_held<W: Write, T: Copy, F: FnOnce(&mut W, T) -> io::Result<()>>(
-    out: &mut W,
-    held: Option<T>,
-    put: F,
-) -> io::Result<()>
-    requires { F.IsAlwaysCallable put }
-{
-    put_flag(out, held.is_some())?;
-    if let Some(x) = held {
-        put(out, x)?;
-    }
-    Ok(())
-}
-
-// A list of n, as far as there are places for them.
-pub fn put_list<W: Write, T: Copy, F: Fn(&mut W, T) -> io::Result<()>>(
-    out: &mut W,
-    list: &[T],
-    n: usize,
-    put: F,
-) -> io::Result<()>
-    requires { F.IsAlwaysCallable put }
-{
-    put_count(out, n)?;
-    for x in list.iter().take(n) {
-        put(out, *x)?;
-    }
-    Ok(())
 }
 
 // A hypothesis that left.

@@ -10,7 +10,8 @@ use hullathan::start::started;
 use plain::{PlainBank, PlainHypothesis};
 use plain_station::PlainStation;
 use replay::{Line, float, put_byte, put_code, put_flag, put_float, put_long, put_word};
-use shown::{put_count, put_departure, put_list, put_tracker};
+use shown::inner::put_list;
+use shown::{put_count, put_departure, put_tracker};
 use std::io;
 use std::io::{BufWriter, Write};
 
@@ -107,5 +108,5 @@ fn turn<W: Write>(out: &mut W, s: &mut PlainStation, line: &Line) -> io::Result<
 fn main(rt: HostRuntime) -> io::Result<()> {
     let mut out = BufWriter::new(rt.alloc(), rt.stdout())?;
     let mut station = started(1, 0).station;
-    replay::run(&mut rt.stdin(), &mut out, &mut station, turn)
+    replay::inner::run(&mut rt.stdin(), &mut out, &mut station, turn)
 }

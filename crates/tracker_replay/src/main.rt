@@ -130,5 +130,5 @@ fn main(rt: HostRuntime) -> io::Result<()> {
         tracker: calls::hullathan_tracker_new(),
         gaps: none_listed(),
     };
-    replay::run(&mut rt.stdin(), &mut out, &mut first, turn)
+    replay::inner::run(&mut rt.stdin(), &mut out, &mut first, turn)
 }
