@@ -1,11 +1,12 @@
--- The sign and the total order, by the library's methods. Assumes nothing.
-use Rattle.std.proofs.Common.{◌≡◌, Bool, true, false, cond, not, ◌&&◌, ◌||◌, ◌==◌, T, Less, Equal, Greater, refl, sym, ◌∙◌}
+-- The sign and the total order, by the library's methods and by the tests of comparisons. Assumes nothing.
+use Rattle.std.proofs.Common.{◌≡◌, ℤ, zero, Bool, true, false, cond, not, ◌&&◌, ◌||◌, ◌==◌, T, Less, Equal, Greater, refl, sym, ap, ◌∙◌, subst}
 use mathlib.Core.Bool.{false≢true}
-use lib.Ieee.{Float, nan, inf, fin, is_nan, lt, eq, le}
+use lib.Ieee.{Float, nan, inf, fin, Format, binary32, is_nan, fits, of_bits, lt, eq, le, div}
 use Rattle.std.specs.Float.{is_sign_negative, total_cmp, NotNan}
 use Rattle.std.specs.Ordering.{ordering_index}
 use Rattle.std.proofs.lemmas.Float.{lt_of_not-le, lt_of_lt_of_le, lt_irrefl}
-use Rattle.order.specs.Order.{negative, total_less}
+use Rattle.order.specs.Order.{abs, negative, total_less}
+use Rattle.order.proofs.Forms.{zero_is, zero_by, zero_form}
 
 pub sign_law : (v : Float) → is_sign_negative v ≡ negative v
 unfolding is_sign_negative
@@ -68,3 +69,42 @@ total_nan a b h = rw h
 pub total_over : (a b : Float) → is_nan a ≡ false → is_nan b ≡ true → true ≡ total_less a b
 unfolding total_less
 total_over a b h k = rw (h, k)
+
+-- ---- and by the tests of comparisons
+module _ (a b : Float) (A : is_nan a ≡ false) (B : is_nan b ≡ false) where
+  pub total_less_law : lt a b ≡ true → true ≡ total_less a b
+  unfolding total_less
+  total_less_law l = rw (A, B, l)
+
+  pub total_zeros : lt a b ≡ false → eq a b ≡ true → negative a ≡ true → not (negative b) ≡ total_less a b
+  unfolding total_less
+  total_zeros l e s = rw (A, B, l, e, s)
+
+  pub total_plus : lt a b ≡ false → eq a b ≡ true → negative a ≡ false → false ≡ total_less a b
+  unfolding total_less
+  total_plus l e s = rw (A, B, l, e, s)
+
+  pub total_more : lt a b ≡ false → eq a b ≡ false → false ≡ total_less a b
+  unfolding total_less
+  total_more l e = rw (A, B, l, e)
+
+-- ---- a zero: the value without its sign, and the sign by one over it
+pub abs_zero : (f : Format) (v : Float) → T (fits f v) → eq v (of_bits f 0) ≡ true → of_bits f 0 ≡ abs v
+abs_zero f v h a =
+    let z = zero_by f v a in
+    zero_is f
+    ∙ ap (fin false 0) (sym (zero_form f z.0 z.1 (subst (λ (x : Float). T (fits f x)) z.2 h)))
+    ∙ ap abs (sym z.2)
+
+over_zero : (s : Bool) (e : ℤ) → lt (div binary32 (of_bits binary32 0x3f80_0000) (fin s zero e)) (of_bits binary32 0) ≡ s
+unfolding lt div of_bits
+over_zero true e = refl
+over_zero false e = refl
+
+pub zero_sign : (v : Float) → eq v (of_bits binary32 0) ≡ true
+    → lt (div binary32 (of_bits binary32 0x3f80_0000) v) (of_bits binary32 0) ≡ negative v
+zero_sign v h =
+    let z = zero_by binary32 v h in
+    ap (λ (x : Float). lt (div binary32 (of_bits binary32 0x3f80_0000) x) (of_bits binary32 0)) z.2
+    ∙ over_zero z.0 z.1
+    ∙ ap negative (sym z.2)

@@ -2,6 +2,7 @@
 #![tactic(auto)]
 
 ghost use Rattle.std.specs.Prelude.{◌≡◌};
+ghost use Rattle.std.specs.Float.Ieee.Scale.{finite};
 ghost use Rattle.order.specs.Order.{clamp, larger, negative, total_less};
 
 use std::cmp::Ordering;
@@ -24,6 +25,14 @@ pub fn max32(a: f32, b: f32) -> f32
     ensures { result ≡ larger a b }
 {
     if a.is_nan() || a < b { b } else { a }
+}
+
+// Whether v is neither NaN nor infinite: Rust's `v.is_finite()`. The library's subtracts, which is invalid of infinity.
+pub fn is_finite32(v: f32) -> bool
+    ensures { result ≡ finite v }
+{
+    let top = f32::from_bits(0x7f80_0000);
+    if -top < v { v < top } else { false }
 }
 
 // Whether the sign of v is minus; NaN has none. The library's `is_sign_negative` asks for a number.
