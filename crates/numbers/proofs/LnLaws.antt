@@ -166,8 +166,8 @@ module _ (sig z : ℕ) (k : Counted sig z) where
 
 -- ---- where the logarithm begins, as the code has it
 module _ (v : Float) (q : Plain v) (p : Parts) (a : Parted binary32 v p) where
-  has : HasValue (fin false (suc q.0) q.1) a.sign (p.sig * 2 ^ p.j) (2 ^ 149)
-  has = subst (λ (x : Float). HasValue x a.sign (p.sig * 2 ^ p.j) (2 ^ 149)) q.2 a.value
+  has : HasValue (fin false (suc q.0) q.1) p.neg (p.sig * 2 ^ p.j) (2 ^ 149)
+  has = subst (λ (x : Float). HasValue x p.neg (p.sig * 2 ^ p.j) (2 ^ 149)) q.2 a.value
 
   some_digit : 0 < p.sig
   some_digit =

@@ -1,14 +1,17 @@
--- What the fields of a float's bit pattern say of its value. Assumes nothing.
-use Rattle.std.proofs.Common.{◌≡◌, ℕ, suc, ◌+◌, ◌-◌, ◌*◌, ◌/◌, ◌%◌, ◌^◌, ◌<◌, ◌≤◌, Bool, true, false, cond, not, T, eqb, leb, sym, refl, ap, ◌∙◌, subst, inl, inr, mod-lt, zero-lt-suc, mul_comm, div-lt_iff_lt-mul, add_comm, mul-pos, arith, lit<, eqb→eq, pow_pos}
+-- What the fields of a float's bit pattern say of its value; and `narrow`. Assumes nothing.
+use Rattle.std.proofs.Common.{◌≡◌, ℕ, suc, ◌+◌, ◌-◌, ◌*◌, ◌/◌, ◌%◌, ◌^◌, ◌<◌, ◌≤◌, Bool, true, false, cond, not, ◌&&◌, ◌||◌, T, eqb, leb, sym, refl, ap, ◌∙◌, subst, inl, inr, true≢false, mod-lt, zero-lt-suc, mul_comm, div-lt_iff_lt-mul, add_comm, mul-pos, arith, lit<, eqb→eq, pow_pos, eq-eqb}
+use mathlib.Core.Bool.{false≢true}
 use lib.Dec.{not_T}
 use lib.Pow.{field}
 use lib.Bits.{bit_and, and_mask, mask_lt}
 use lib.Ieee.{Float, nan, inf, fin, Format, binary32, binary64, prec, emax, low, hid, ones, top, odd, fits, is_nan}
-use lib.Ieee.{of_fields, of_bits, to_bits}
+use lib.Ieee.{of_fields, of_bits, to_bits, neg, lt, eq, ne, div, round, up, down}
 use lib.Ieee.Bits.{of_bits-to_bits, cond_no}
+use lib.Ieee.Fits.{down_pos}
 use lib.Ieee.Exact.{HasValue, odd_sign}
-use lib.Ieee.Scale.{finite}
+use lib.Ieee.Scale.{finite, round_same}
 use Rattle.numbers.specs.Parts.{Parted}
+use Rattle.numbers.specs.Values.{narrow}
 
 pub finite_number : (v : Float) → T (finite v) → T (not (is_nan v))
 unfolding is_nan
@@ -79,9 +82,8 @@ module _ (f : Format) (v : Float) (F : T (fits f v)) (N : T (finite v)) where
       go binary32 = refl
       go binary64 = refl
 
-  pub zero_field : x ≡ 0 → Parted f v (record { sig = t; j = 0 })
+  pub zero_field : x ≡ 0 → Parted f v (record { neg = s; sig = t; j = 0 })
   zero_field e = record {
-    sign = s;
     value = subst (λ (w : Float). HasValue w s (t * 2 ^ 0) (2 ^ low f))
         (sym (low_is f s t) ∙ ap (λ (y : ℕ). of_fields f s y t) (sym e) ∙ reads) (odd_sign (prec f) s t 0 (low f));
     small = wider (hid f) (2 ^ prec f) t t_lt twice;
@@ -96,9 +98,8 @@ module _ (f : Format) (v : Float) (F : T (fits f v)) (N : T (finite v)) where
       any_field binary32 = lit< tt
       any_field binary64 = lit< tt
 
-  pub some_field : (x ≡ 0 → ⊥) → Parted f v (record { sig = t + hid f; j = x - 1 })
+  pub some_field : (x ≡ 0 → ⊥) → Parted f v (record { neg = s; sig = t + hid f; j = x - 1 })
   some_field n = record {
-    sign = s;
     value = subst (λ (w : Float). HasValue w s ((t + hid f) * 2 ^ (x - 1)) (2 ^ low f)) read
         (subst (λ (q : ℕ). HasValue (odd (prec f) s (hid f + t) (x - 1) (low f)) s (q * 2 ^ (x - 1)) (2 ^ low f))
         (add_comm (hid f) t) (odd_sign (prec f) s (hid f + t) (x - 1) (low f)));
@@ -150,13 +151,56 @@ module _ (f : Format) (w m : ℕ) (A : top f ≡ 2 ^ (w + m)) (B : hid f ≡ 2 ^
   pub field_lt : field_of < 2 ^ w
   field_lt = mask_lt (to_bits f v / 2 ^ m) w
 
-  pub parted_low : field_of ≡ 0 → Parted f v (record { sig = low_of; j = 0 })
+  pub parted_low : field_of ≡ 0 → Parted f v (record { neg = s f v F N; sig = low_of; j = 0 })
   parted_low e =
-      subst (λ (y : ℕ). Parted f v (record { sig = y; j = 0 })) (sym low_of_is)
+      subst (λ (y : ℕ). Parted f v (record { neg = s f v F N; sig = y; j = 0 })) (sym low_of_is)
       (zero_field f v F N (sym field_is ∙ e))
 
-  pub parted : (field_of ≡ 0 → ⊥) → Parted f v (record { sig = low_of + hid f; j = field_of - 1 })
+  pub parted : (field_of ≡ 0 → ⊥) → Parted f v (record { neg = s f v F N; sig = low_of + hid f; j = field_of - 1 })
   parted n =
-      subst (λ (y : ℕ). Parted f v (record { sig = y + hid f; j = field_of - 1 })) (sym low_of_is)
-      (subst (λ (y : ℕ). Parted f v (record { sig = t f v F N + hid f; j = y - 1 })) (sym field_is)
+      subst (λ (y : ℕ). Parted f v (record { neg = s f v F N; sig = y + hid f; j = field_of - 1 })) (sym low_of_is)
+      (subst (λ (y : ℕ). Parted f v (record { neg = s f v F N; sig = t f v F N + hid f; j = y - 1 })) (sym field_is)
       (some_field f v F N (λ e. n (field_is ∙ e))))
+
+-- ---- `narrow`
+pub narrow_value : (v : Float) (s : Bool) (a c : ℕ) → 0 < c → HasValue v s a c → round binary32 s a c ≡ narrow v
+unfolding narrow
+narrow_value nan s a c p h = absurd h
+narrow_value (inf t) s a c p h = absurd h
+narrow_value (fin t m e) s a c p h =
+    round_same binary32 s a c (m * up e) (down e) p (down_pos e) (sym h.1)
+    ∙ ap (λ (z : Bool). round binary32 z (m * up e) (down e)) (sym h.0)
+
+nan_is : div binary32 (of_bits binary32 0) (of_bits binary32 0) ≡ nan
+unfolding div of_bits
+nan_is = refl
+
+low_inf : div binary32 (neg (of_bits binary32 1065353216)) (of_bits binary32 0) ≡ inf true
+unfolding div of_bits neg
+low_inf = refl
+
+high_inf : div binary32 (of_bits binary32 1065353216) (of_bits binary32 0) ≡ inf false
+unfolding div of_bits
+high_inf = refl
+
+pub narrow_nan : (v : Float) → ne v v ≡ true → div binary32 (of_bits binary32 0) (of_bits binary32 0) ≡ narrow v
+unfolding narrow ne eq
+narrow_nan nan h = nan_is
+narrow_nan (inf true) h = absurd (false≢true h)
+narrow_nan (inf false) h = absurd (false≢true h)
+narrow_nan (fin true m e) h = absurd (false≢true (sym (ap (λ (z : Bool). not (z && (true || eqb (m * up e * down e) 0))) (eq-eqb (m * up e * down e) (m * up e * down e) refl)) ∙ h))
+narrow_nan (fin false m e) h = absurd (false≢true (sym (ap (λ (z : Bool). not (z && (true || eqb (m * up e * down e) 0))) (eq-eqb (m * up e * down e) (m * up e * down e) refl)) ∙ h))
+
+pub narrow_below : (v : Float) → finite v ≡ false → ne v v ≡ false → lt v (of_bits binary64 0) ≡ true → div binary32 (neg (of_bits binary32 1065353216)) (of_bits binary32 0) ≡ narrow v
+unfolding narrow ne eq lt of_bits
+narrow_below nan f h l = absurd (true≢false h)
+narrow_below (inf true) f h l = low_inf
+narrow_below (inf false) f h l = absurd (false≢true l)
+narrow_below (fin s m e) f h l = absurd (true≢false f)
+
+pub narrow_over : (v : Float) → finite v ≡ false → ne v v ≡ false → lt v (of_bits binary64 0) ≡ false → div binary32 (of_bits binary32 1065353216) (of_bits binary32 0) ≡ narrow v
+unfolding narrow ne eq lt of_bits
+narrow_over nan f h l = absurd (true≢false h)
+narrow_over (inf true) f h l = absurd (true≢false l)
+narrow_over (inf false) f h l = high_inf
+narrow_over (fin s m e) f h l = absurd (true≢false f)

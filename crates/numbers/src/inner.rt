@@ -1,5 +1,5 @@
 // The logarithm and the roots as the layers above call them, which know what they hand in.
-ghost use Rattle.std.specs.Prelude.{◌≡◌, ◌+◌, ◌*◌, ◌^◌, ◌<◌, ◌≤◌, T};
+ghost use Rattle.std.specs.Prelude.{◌≡◌, ◌+◌, ◌*◌, ◌^◌, ◌<◌, ◌≤◌, not, T, is_nan};
 ghost use Rattle.std.specs.Float.{binary32};
 ghost use Rattle.std.specs.Float.Ieee.{lt, minus};
 ghost use Rattle.std.specs.Float.Ieee.Positive.{positive};
@@ -8,8 +8,8 @@ ghost use Rattle.numbers.specs.Parts.{Begun};
 ghost use Rattle.numbers.specs.Root.{sqrt_of};
 
 use crate::log::two_digits;
-use crate::root::BinaryFloat;
-use crate::rounding::{ratio, take_apart};
+use crate::root::{BinaryFloat, pattern_below};
+use crate::rounding::{ratio32, take_apart32};
 
 // Where a logarithm begins: the leading one brought to bit 31, and the exponent, 149 more than it is.
 #[derive(Clone, Copy)]
@@ -24,7 +24,7 @@ pub(crate) fn lead_of(v: f32) -> Lead
     requires { T (positive v) }
     ensures { Begun v result.y result.e }
 {
-    let p = take_apart(v);
+    let p = take_apart32(v);
     // 40 of 64 places for 24 digits, and more for a subnormal
     let z = p.sig.leading_zeros();
     Lead {
@@ -41,9 +41,9 @@ pub(crate) fn log_from(e: u64, t: u64) -> f32
     let hi = e * 16777216 + t;
     // 149 * 2^24
     if 2499805184 <= hi {
-        return ratio(false, (hi - 2499805184) * 2977044472, 56);
+        return ratio32(false, (hi - 2499805184) * 2977044472, 56);
     }
-    ratio(true, (2499805184 - hi) * 2977044472, 56)
+    ratio32(true, (2499805184 - hi) * 2977044472, 56)
 }
 
 // The natural logarithm of a v that is finite and above zero.
@@ -77,9 +77,30 @@ pub fn ln_two(v: f32, w: f32) -> Logs
     Logs { a, b }
 }
 
+// Whether x is below the root of a v that is finite and above zero, with no root taken where x is a normal f32.
+fn below_positive(x: f32, v: f32) -> bool
+    requires { T (not (is_nan x)) × T (positive v) }
+    ensures { result ≡ lt x (sqrt_of binary32 v) }
+{
+    let c = x.to_bits();
+    if 0x0080_0000 <= c {
+        if c < 0x7f00_0000 {
+            return pattern_below(c, v);
+        }
+    }
+    x < v.root()
+}
+
 // Whether x is below the root of v: Rust's `x < v.sqrt()` on every value.
 pub fn below_root(x: f32, v: f32) -> bool
     ensures { result ≡ lt x (sqrt_of binary32 v) }
 {
+    if 0.0 < x {
+        if 0.0 < v {
+            if v < f32::INFINITY {
+                return below_positive(x, v);
+            }
+        }
+    }
     x < v.root()
 }

@@ -54,7 +54,7 @@ pub(crate) fn two_digits(y: u64, z: u64) -> Digits
 pub fn ln(v: f32) -> Result<f32, Refusal>
     ensures { said result ≡ ln_said v }
 {
-    if 0.0 < v && v.is_finite() {
+    if 0.0 < v && v < f32::INFINITY {
         Ok(ln_of(v))
     } else {
         Err(Refusal::NoLogarithm)

@@ -1,25 +1,25 @@
 -- `numbers::log::ln` meets its contract. Assumes nothing.
-use Rattle.std.proofs.Common.{◌≡◌, true, T, sym, subst, ◌∙◌}
+use Rattle.std.proofs.Common.{◌≡◌, true}
 use lib.Ieee.{binary32}
 use lib.Ieee.Positive.{positive}
-use Rattle.numbers.proofs.Library.{positive_law, said_ln, no_said_ln}
+use Rattle.numbers.proofs.Library.{said_ln, no_said_ln}
+use Rattle.numbers.proofs.Plain.{top32_is, positive_by, low_by, high_by, passed}
 use Rattle.numbers.proofs.log.ln.Goals as goal
-use Rattle.numbers.proofs.log.ln.Goals.{Then-is_finite, else-v-via-then-v+else-is_finite, else-v-via-else-v}
+use Rattle.numbers.proofs.log.ln.Goals.{Then-v-2, else-v-via-then-v+else-v-2, else-v-via-else-v}
 
 -- past both tests
-passed : (c : Then-is_finite) → positive c.args.v ≡ true
-passed c = rw (← positive_law binary32, c.if-v.true) (sym c.is_finite.ensures.value ∙ c.if-is_finite.true)
+above : (c : Then-v-2) → positive c.args.v ≡ true
+above c = positive_by binary32 c.args.v _ top32_is c.if-v.true c.if-v-2.true
 
 pub ln_of-requires : goal.ln_of-requires
-ln_of-requires c = subst T (sym (passed c)) tt
+ln_of-requires c = passed c.args.v (above c)
 
-pub returns-then-is_finite : goal.returns-then-is_finite
-returns-then-is_finite c = said_ln _ _ (passed c.before) c.ln_of.ensures
+pub returns-then-v-2 : goal.returns-then-v-2
+returns-then-v-2 c = said_ln _ _ (above c.before) c.ln_of.ensures
 
 pub returns-else-v : goal.returns-else-v
 returns-else-v c =
     no_said_ln _ (elim c.else-v.branch [
-      | else-v-via-then-v+else-is_finite w ↦
-          rw (← positive_law binary32, w.if-v.true) (sym w.is_finite.ensures.value ∙ w.if-is_finite.false)
-      | else-v-via-else-v w ↦ rw (← positive_law binary32, w.if-v.false)
+      | else-v-via-then-v+else-v-2 w ↦ high_by binary32 c.args.v _ top32_is w.if-v-2.false
+      | else-v-via-else-v w ↦ low_by binary32 c.args.v _ top32_is w.if-v.false
     ])

@@ -1,8 +1,16 @@
 -- `root` of an f32 meets its contract. Assumes nothing.
-use Rattle.std.proofs.Common.{T, sym, subst, ◌∙◌}
 use lib.Ieee.{binary32}
-use Rattle.numbers.proofs.SameRoot.{sqrt_law}
+use Rattle.numbers.proofs.Plain.{top32_is, positive_by, passed, top_root, zero_root, no_root}
 use Rattle.numbers.proofs.root.F32BinaryFloat.root.Goals as goal
 
+pub positive_root32-requires : goal.positive_root32-requires
+positive_root32-requires c = passed c.args.self (positive_by binary32 c.args.self _ top32_is c.if-self.true c.if-self-2.true)
+
+pub returns-then-self : goal.returns-then-self
+returns-then-self c = top_root binary32 c.args.self _ top32_is c.if-self.true c.if-self-2.false
+
+pub returns-then-self-3 : goal.returns-then-self-3
+returns-then-self-3 c = zero_root binary32 c.args.self c.if-self-3.true
+
 pub returns : goal.returns
-returns c = c.sqrt.ensures.value ∙ sqrt_law binary32 _ (subst T (sym c.well_formed.0.1) tt)
+returns c = no_root binary32 c.args.self c.if-self.false c.if-self-3.false

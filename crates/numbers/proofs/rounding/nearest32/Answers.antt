@@ -1,11 +1,11 @@
--- `numbers::rounding::nearest` meets its contract: `proofs/Rounds.antt` says what is dropped and what is kept. Assumes nothing.
+-- `numbers::rounding::nearest32` meets its contract: `proofs/Rounds.antt` says what is dropped and what is kept. Assumes nothing.
 use Rattle.std.proofs.Common.{◌≡◌, ℕ, ◌+◌, ◌-◌, ◌*◌, ◌%◌, ◌^◌, ◌<◌, ◌≤◌, sym, refl, ◌∙◌, le_of_lt, arith}
 use lib.Count.{count_leading_zeros, leading_le}
 use lib.Ieee.{binary32}
 use lib.Ieee.Nearest.{closest}
 use Rattle.numbers.proofs.Rounds.{round_zero, Word, word}
-use Rattle.numbers.proofs.rounding.nearest.Goals as goal
-use Rattle.numbers.proofs.rounding.nearest.Goals.{Else-z-x, Start, Then-z-x}
+use Rattle.numbers.proofs.rounding.nearest32.Goals as goal
+use Rattle.numbers.proofs.rounding.nearest32.Goals.{Else-z-x, Start, Then-z-x}
 
 -- how many digits of the whole part, in units of the smallest f32, a normal f32 drops, by the leading zeros z; a
 -- smaller one drops none
@@ -42,26 +42,26 @@ module _ (c : Else-z-x) where
       (small_drops _ _ (leading_le 64 t.args.m) c.if-z-x.false) refl
 
 pub returns-then-m-eq0 : goal.returns-then-m-eq0
-returns-then-m-eq0 c = let s = c.before.before in c.pack.ensures ∙ sym (round_zero binary32 s.args.neg s.args.m s.args.j c.if-m-eq0.true)
+returns-then-m-eq0 c = let s = c.before.before in c.pack32.ensures ∙ sym (round_zero binary32 s.args.neg s.args.m s.args.j c.if-m-eq0.true)
 
-pub pack-requires-then-z-x : goal.pack-requires-then-z-x
-pack-requires-then-z-x c = (normal c.before).ok _ (normal_kept c.before _ c.rounded.ensures)
+pub pack32-requires-then-z-x : goal.pack32-requires-then-z-x
+pack32-requires-then-z-x c = (normal c.before).ok _ (normal_kept c.before _ c.rounded.ensures)
 
 pub returns-then-z-x : goal.returns-then-z-x
 returns-then-z-x c =
-    c.pack-then-z-x.ensures
+    c.pack32-then-z-x.ensures
     ∙ (normal c.before.before).is _ _ (normal_kept c.before.before _ c.rounded.ensures)
 
-pub pack-requires-then-x-ge925 : goal.pack-requires-then-x-ge925
-pack-requires-then-x-ge925 c = (small c.before).ok _ ((small c.before).shl c.if-x-ge925.true)
+pub pack32-requires-then-x-ge925 : goal.pack32-requires-then-x-ge925
+pack32-requires-then-x-ge925 c = (small c.before).ok _ ((small c.before).shl c.if-x-ge925.true)
 
-pub pack-requires-else-x-ge925 : goal.pack-requires-else-x-ge925
-pack-requires-else-x-ge925 c = let w = small c.before.before in
+pub pack32-requires-else-x-ge925 : goal.pack32-requires-else-x-ge925
+pack32-requires-else-x-ge925 c = let w = small c.before.before in
     w.ok _ (c.rounded-else-x-ge925.ensures ∙ w.cut (le_of_lt c.if-x-ge925.false))
 
 pub returns-then-x-ge925 : goal.returns-then-x-ge925
-returns-then-x-ge925 c = let w = small c.before.before in c.pack-then-x-ge925.ensures ∙ w.is _ _ (w.shl c.if-x-ge925.true)
+returns-then-x-ge925 c = let w = small c.before.before in c.pack32-then-x-ge925.ensures ∙ w.is _ _ (w.shl c.if-x-ge925.true)
 
 pub returns-else-x-ge925 : goal.returns-else-x-ge925
 returns-else-x-ge925 c = let w = small c.before.before.before in
-    c.pack-else-x-ge925.ensures ∙ w.is _ _ (c.rounded-else-x-ge925.ensures ∙ w.cut (le_of_lt c.if-x-ge925.false))
+    c.pack32-else-x-ge925.ensures ∙ w.is _ _ (c.rounded-else-x-ge925.ensures ∙ w.cut (le_of_lt c.if-x-ge925.false))
