@@ -7,11 +7,12 @@ ghost use Rattle.sender.specs.Model.{view};
 ghost use Rattle.sender.specs.Steps.{dits};
 ghost use Rattle.sender.specs.Answers.{first_of, dit_refusal, observe_refusal};
 
+use crate::inner::in_dits;
 use crate::{Dits, Millis, SenderTiming, SoundTiming};
 use ranges::{Duration, within};
 use refusals::Refusal;
 
-// The one place where milliseconds become dits.
+// A duration in dits, or its refusal by 5 to 7 or 9.
 pub(crate) fn measured(dur_ms: Millis, dit_ms: Millis) -> Result<Dits, Refusal>
     ensures refused { refusal_of result ≡ first_of (duration_refusal dur_ms.0) (dit_refusal dit_ms.0) }
     ensures in_dits { IfOk result (λ x. x.0 ≡ dits dur_ms.0 dit_ms.0) }
@@ -21,7 +22,7 @@ pub(crate) fn measured(dur_ms: Millis, dit_ms: Millis) -> Result<Dits, Refusal>
     if !within(dit_ms.0, 20.0, 150.0) {
         return Err(Refusal::BadDit);
     }
-    Ok(Dits(dur.ms / dit_ms.0))
+    Ok(in_dits(Millis(dur.ms), dit_ms))
 }
 
 // Whether `observe` refuses: by 1, 5 to 7 or 9.

@@ -40,6 +40,7 @@ ghost use Rattle.sender.specs.Answers.{
   reported,
 };
 
+use order::is_finite32;
 use ranges::within;
 use refusals::Refusal;
 pub use sound::SoundTiming;
@@ -48,6 +49,7 @@ use std::fmt;
 use std::ops::{Index, IndexMut};
 
 pub mod door;
+pub mod inner;
 mod sound;
 
 // The weight of a new sample: the Rust's `CLUSTER_ALPHA`.
@@ -134,7 +136,7 @@ impl ClassStats {
         ensures { result ≡ class_sound (view_class self) }
     {
         self.n == 0
-            || (within(self.mean.0, 0.0001, 13108.0) && 0.0 <= self.var && self.var.is_finite())
+            || (within(self.mean.0, 0.0001, 13108.0) && 0.0 <= self.var && is_finite32(self.var))
     }
 
     // The same with one more sample: the Rust's `ClassStats::observe`. The count stays at its largest.
@@ -271,10 +273,8 @@ impl SenderTiming {
             (observed class (dits dur_ms.0 dit_ms.0) (view self.old)) self.new }
         ensures timing_value { self.new ≡ with_stats class (stats_of class self.new) self.old }
     {
-        let mut sound = SoundTiming::try_from(*self)?;
-        let x = door::measured(dur_ms, dit_ms)?;
-        sound.observe(class, x);
-        *self = sound.timing;
+        door::observe_refusal(*self, dur_ms, dit_ms)?;
+        *self = inner::observe(*self, class, dur_ms, dit_ms);
         Ok(())
     }
 

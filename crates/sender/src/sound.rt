@@ -5,12 +5,11 @@ ghost use Rattle.ranges.specs.Interval.{In};
 ghost use Rattle.ranges.specs.Limits.{class_min, class_max};
 ghost use Rattle.sender.specs.Model.{at, view, view_class, view_estimates, held, length_in, stats_of, with_stats};
 ghost use Rattle.sender.specs.Sound.{sound};
-ghost use Rattle.sender.specs.Steps.{observed, boundary, pauses, char_gap_or, mean_of, ratio, word_dits};
+ghost use Rattle.sender.specs.Steps.{observed, boundary, pauses, mean_of, ratio, word_dits};
 ghost use Rattle.sender.specs.Answers.{state_refusal};
 
-use crate::{ClassStats, Dits, Millis, SenderTiming, TimingClass, TimingEstimates};
+use crate::{ClassStats, Dits, Millis, SenderTiming, TimingClass, TimingEstimates, inner};
 use numbers::root::BinaryFloat;
-use order::max32;
 use refusals::Refusal;
 
 // The root of 7/3: the Rust's `NOMINAL_WORD_CHAR_RATIO.sqrt()`.
@@ -52,7 +51,7 @@ impl SoundTiming {
     pub fn mean_dits(self, class: TimingClass) -> Option<Dits>
         ensures { length_in result ≡ mean_of (at class (view self.timing)) }
     {
-        Some(self.timing[class].known()?.mean)
+        inner::mean_dits(self.timing, class)
     }
 
     // The dash to dot ratio, once both have three observations. It is finite: the Rust's tests of that are left out.
@@ -61,7 +60,12 @@ impl SoundTiming {
     {
         let dot = self.timing.dot;
         let dash = self.timing.dash;
-        (dot.n >= 3 && dash.n >= 3).then_some(dash.mean.0 / dot.mean.0)
+        // an `if`: nothing is divided where there is no ratio
+        if dot.n >= 3 && dash.n >= 3 {
+            Some(dash.mean.0 / dot.mean.0)
+        } else {
+            None
+        }
     }
 
     // The boundary between characters and words. It is finite, so the Rust's test for that is left out.
@@ -74,20 +78,11 @@ impl SoundTiming {
         Some(Dits(b.0.clamp(3.0, 12.0)))
     }
 
-    // The average char gap, else 0.
-    #[tactic(auto, unfolding(crate::specs::Steps::char_gap_or))]
-    pub(crate) fn char_gap_or(self) -> Dits
-        ensures { result.0 ≡ char_gap_or (view self.timing) }
-    {
-        self.timing.char_gap.known().map_or(Dits(0.0), |c| c.mean)
-    }
-
     // Whether a closed word gap is a pause.
-    #[tactic(auto, unfolding(crate::specs::Steps::pauses))]
     pub fn is_pause(self, dits: Dits) -> bool
         ensures { result ≡ pauses dits.0 (view self.timing) }
     {
-        dits.0 >= max32(15.0, 4.0 * self.char_gap_or().0)
+        inner::is_pause(self.timing, dits)
     }
 
     // The five classes as a report.
@@ -95,15 +90,7 @@ impl SoundTiming {
         ensures dit { result.dit_ms ≡ dit_ms }
         ensures classes { view_estimates result ≡ view self.timing }
     {
-        let s = self.timing;
-        TimingEstimates {
-            dit_ms,
-            dot: s.dot.estimate(),
-            dash: s.dash.estimate(),
-            element_gap: s.element_gap.estimate(),
-            char_gap: s.char_gap.estimate(),
-            word_gap: s.word_gap.estimate(),
-        }
+        inner::estimates(self.timing, dit_ms)
     }
 }
 

@@ -2,7 +2,6 @@
 use mathlib.Core.Path.{sym, ◌∙◌}
 use mathlib.Core.Bool.{true}
 use lib.Ieee.{of_bits}
-use Rattle.order.proofs.Library.{is_finite_law}
 use Rattle.sender.proofs.Tests.{class_sound_is}
 use Rattle.sender.proofs.ClassStats.is_sound.Goals as goal
 use Rattle.sender.proofs.ClassStats.is_sound.Goals.{then-within, else-within}
@@ -14,6 +13,6 @@ returns-then-self c =
     elim c.if-within.branch [
       | then-within w ↦
           class_sound_is s.mean.0 s.var s.n true true _ c.if-self-eq0.false (sym w.if-within.true ∙ c.within.ensures)
-          (sym w.value-is ∙ c.if-self.true) (c.is_finite.ensures.value ∙ is_finite_law s.var)
+          (sym w.value-is ∙ c.if-self.true) c.is_finite32.ensures
       | else-within w ↦ absurd (cc)
     ]
