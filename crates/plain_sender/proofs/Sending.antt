@@ -1,7 +1,7 @@
 -- What becomes of a sender's statistics in the host's memory. Assumes nothing.
 use mathlib.Core.Path.{◌≡◌, refl, ap, sym, ◌∙◌}
-use mathlib.Core.Bool.{cond}
-use mathlib.Core.Option.{Option, some}
+use mathlib.Core.Bool.{Bool, true, false, cond}
+use mathlib.Core.Option.{Option, none, some}
 use Prim.Native.Nat.{ℕ, zero, suc}
 use native.Mathlib.Omega.{arith}
 use lib.Dec.{eqb}
@@ -16,9 +16,9 @@ use Rattle.sender.specs.declared.ClassStats.{ClassStats}
 use Rattle.sender.specs.declared.SenderTiming.{SenderTiming}
 use Rattle.sender.specs.Model.{Class, Timing, at, sampled, stats_of, view, view_class, with_stats}
 use Rattle.sender.specs.Steps.{dits, observed, observed_class}
-use Rattle.sender.specs.Answers.{Left, done, observe_refusal, of_told, unless}
+use Rattle.sender.specs.Answers.{Left, done, first_of, observe_refusal, of_told, unless}
 use Rattle.sender.proofs.Views.{at_view}
-use Rattle.plain_sender.specs.Plain.{Observes, plain_class, with_class}
+use Rattle.plain_sender.specs.Plain.{Observes, plain_class, sent_refusal, with_class}
 
 -- ---- refusals
 
@@ -71,3 +71,20 @@ module _ (k : TimingClass) (dur dit : Float) (s r : SenderTiming)
     leaves = leaves (observe_refusal (view s) dur dit) refl;
     still = l.still;
   }
+
+-- ---- where no class has the number
+same_either : {A : Type 0} (b : Bool) (x : A) → x ≡ cond b x x
+same_either true x = refl
+same_either false x = refl
+
+never_none : (n : ℕ) → first_of n 12 ≡ 0 → ⊥
+never_none zero e = omega arith
+never_none (suc n) e = omega arith
+
+pub observes_none : (dur dit : Float) (s : SenderTiming) (code : ℕ) → code ≡ coded (sent_refusal none dur dit (view s))
+    → Observes none dur dit s code s
+observes_none dur dit s code e = record {
+  says = e;
+  leaves = same_either (eqb (sent_refusal none dur dit (view s)) 0) s;
+  still = λ z. absurd (never_none (observe_refusal (view s) dur dit) z);
+}
