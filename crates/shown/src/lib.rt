@@ -4,6 +4,7 @@
 
 use inner::{put_held, put_list};
 use marks::List;
+use marks::inner::places::push;
 use pair::ClusterPair;
 use plain::PlainDeparture;
 use plain_tracker::PlainTracker;
@@ -28,7 +29,7 @@ pub fn none_listed() -> Listed {
 
 // x on the list; what is beyond its room is no part of it.
 pub fn listed(list: Listed, x: f32) -> Listed {
-    if list.len < 13 { list.push(x) } else { list }
+    if list.len < 13 { push(list, x) } else { list }
 }
 
 // A count; none here is above 32 bits.

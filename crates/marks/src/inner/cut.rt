@@ -33,23 +33,21 @@ pub struct Halves {
     pub hi: f32,
 }
 
-impl Marks<'_> {
-    // The means of sorted marks up to the cut and from it on: `mean` is handed the part that starts there.
-    pub fn split(self) -> Halves
-        requires { 2 ≤ length self.at.now }
-        ensures { Halved self.entry.at.now result }
-    {
-        let cut = largest_ratio_split(self.at) + 1;
-        let before = Marks {
-            at: &self.at[..cut],
-        };
-        let after = Marks {
-            at: &self.at[cut..],
-        };
-        Halves {
-            cut,
-            lo: before.mean(),
-            hi: after.mean(),
-        }
+// The means of sorted marks up to the cut and from it on: `mean` is handed the part that starts there.
+pub fn split(sorted: Marks) -> Halves
+    requires { 2 ≤ length sorted.at.now }
+    ensures { Halved sorted.entry.at.now result }
+{
+    let cut = largest_ratio_split(sorted.at) + 1;
+    let before = Marks {
+        at: &sorted.at[..cut],
+    };
+    let after = Marks {
+        at: &sorted.at[cut..],
+    };
+    Halves {
+        cut,
+        lo: before.mean(),
+        hi: after.mean(),
     }
 }

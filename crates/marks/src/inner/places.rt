@@ -5,22 +5,20 @@ ghost use Rattle.marks.specs.Lists.{all_durations, pushed};
 use crate::List;
 use ranges::is_duration;
 
-impl<const N: usize> List<N> {
-    // d is the latest; where there is no room, the first goes.
-    pub fn push(self, d: f32) -> List<N>
-        requires { 0 < N }
-        ensures { take result.len result.at ≡ pushed N (take self.entry.len self.entry.at) d }
-    {
-        let mut at = self.at;
-        let len = self.len;
-        if len < N {
-            at[len] = d;
-            return List { at, len: len + 1 };
-        }
-        at.rotate_left(1);
-        at[N - 1] = d;
-        List { at, len }
+// d is the latest of a list; where there is no room, the first goes.
+pub fn push<const N: usize>(list: List<N>, d: f32) -> List<N>
+    requires { 0 < N }
+    ensures { take result.len result.at ≡ pushed N (take list.entry.len list.entry.at) d }
+{
+    let mut at = list.at;
+    let len = list.len;
+    if len < N {
+        at[len] = d;
+        return List { at, len: len + 1 };
     }
+    at.rotate_left(1);
+    at[N - 1] = d;
+    List { at, len }
 }
 
 // Up to twelve marks at the head of an array of twelve.

@@ -6,6 +6,7 @@ ghost use Rattle.pair.specs.Lock.{bimodal, unimodal, locked, initialized};
 
 use crate::ClusterPair;
 use marks::Marks;
+use marks::inner::cut::split;
 use marks::inner::places::copied;
 use marks::inner::sort::sort;
 
@@ -26,7 +27,7 @@ pub(crate) fn bimodal(sorted: Marks) -> ClusterPair
     requires { 2 ≤ length sorted.at.now }
     ensures { (view_pair result ≡ bimodal sorted.entry.at.now) × (result.init_len ≡ 0) }
 {
-    let h = sorted.split();
+    let h = split(sorted);
     ClusterPair {
         lo: h.lo,
         hi: h.hi,

@@ -9,6 +9,7 @@ use crate::inner::relock::check;
 use crate::inner::speed::{averaged, bound, speed, spoken};
 use crate::{SoundTracker, SpeedTracker};
 use marks::List;
+use marks::inner::places::push;
 use pair::inner::pair::{constrain, learn, start};
 use ranges::Duration;
 use ring::inner::drift::uniform;
@@ -37,7 +38,7 @@ pub(crate) fn marked(s: SoundTracker, d: Duration) -> SpeedTracker
         at,
         len: t.recent_len,
     };
-    let recent = last.push(d.ms);
+    let recent = push(last, d.ms);
     let at = recent.at;
     let mut u = t;
     u.recent = at;
