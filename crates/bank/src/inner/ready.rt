@@ -63,7 +63,7 @@ pub(crate) fn from_others(marks: Marks) -> SoundTracker
     let rest = others(marks.at, k);
     let n = marks.at.len() - 1;
     let others = Marks { at: &rest[..n] };
-    from_marks(others, Marks { at: &[] })
+    from_marks(others, &[])
 }
 
 // The other reading of the primary p, which was locked from marks.

@@ -116,9 +116,7 @@ pub(crate) fn candidate(b: SoundBank, p: LogPair) -> Option<SoundTracker>
     let marks = Marks {
         at: &b.bank.streak[..b.bank.streak_len],
     };
-    let gaps = Marks {
-        at: &b.bank.streak_gaps[..b.bank.streak_gaps_len],
-    };
+    let gaps = &b.bank.streak_gaps[..b.bank.streak_gaps_len];
     let t = from_marks(marks, gaps);
     if duplicates(centroid_logs(t.tracker.pair.lo, t.tracker.pair.hi), p) {
         return three_to_one_alternative(t);

@@ -1,5 +1,7 @@
 // Trackers that a bank makes (the Rust's `from_marks` and `three_to_one_alternative`).
 ghost use Rattle.std.specs.Prelude.{◌≡◌, ◌≤◌, length};
+ghost use Rattle.ranges.specs.Interval.{AllIn};
+ghost use Rattle.ranges.specs.Limits.{duration_min, duration_max};
 ghost use Rattle.ranges.specs.Settings.{standard};
 ghost use Rattle.tracker.specs.Model.{view, with_pair};
 ghost use Rattle.tracker.specs.Parts.{other};
@@ -37,20 +39,22 @@ pub(crate) fn element_gap(t: SoundTracker, g: Duration) -> SoundTracker
 }
 
 // The same for each gap.
-pub(crate) fn element_gaps(t: SoundTracker, gaps: Marks) -> SoundTracker
-    ensures { view result.tracker ≡ element_gaps standard (view t.tracker) gaps.entry.at.now }
+pub(crate) fn element_gaps(t: SoundTracker, gaps: &[f32]) -> SoundTracker
+    requires { AllIn duration_min duration_max gaps.now }
+    ensures { view result.tracker ≡ element_gaps standard (view t.tracker) gaps.now }
 {
     let mut u = t;
-    for g in gaps.at {
+    for g in gaps {
         u = element_gap(u, Duration { ms: *g });
     }
     u
 }
 
-// A tracker from marks and the gaps between them.
-pub fn from_marks(marks: Marks, gaps: Marks) -> SoundTracker
-    requires { 1 ≤ length marks.at.now }
-    ensures { view result.tracker ≡ from_marks standard marks.entry.at.now gaps.entry.at.now }
+// A tracker from marks and the gaps between them, of which there may be any number.
+pub fn from_marks(marks: Marks, gaps: &[f32]) -> SoundTracker
+    requires any { 1 ≤ length marks.at.now }
+    requires between { AllIn duration_min duration_max gaps.now }
+    ensures { view result.tracker ≡ from_marks standard marks.entry.at.now gaps.now }
 {
     let t = element_gaps(locked(marks), gaps);
     SoundTracker {

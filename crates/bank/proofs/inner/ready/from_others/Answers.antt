@@ -20,8 +20,12 @@ invariant_of-others c =
 
 pub from_marks-requires : goal.from_marks-requires
 from_marks-requires c =
-    (rest_good _ _ _ c.least_place-k.ensures c.requires c.others-rest.ensures _ _ c.args.marks.few
-    (durations_in _ c.args.marks.held)).0.0
+    record {
+      any =
+          (rest_good _ _ _ c.least_place-k.ensures c.requires c.others-rest.ensures _ _ c.args.marks.few
+          (durations_in _ c.args.marks.held)).0.0;
+      between = durations_in [] tt;
+    }
 
 pub returns : goal.returns
 returns c = c.from_marks.ensures

@@ -15,12 +15,11 @@ invariant_of-marks c =
     let n = s.few in
     record { held = held_durations _ s.marks; few = simp length-take (omega arith) }
 
-pub invariant_of-gaps : goal.invariant_of-gaps
-invariant_of-gaps c =
+pub from_marks-t-requires : goal.from_marks-t-requires
+from_marks-t-requires c =
     let s = c.args.b.sturdy.streaks in
     let n = s.few in
-    let m = s.paired in
-    record { held = held_durations _ s.between; few = simp length-take (omega arith) }
+    record { any = simp length-take (omega arith); between = s.between }
 
 pub centroid_logs-requires : goal.centroid_logs-requires
 centroid_logs-requires c =

@@ -5,4 +5,4 @@ use Rattle.tracker.proofs.Rivalling.{Hearing}
 use Rattle.tracker.proofs.inner.rivals.element_gaps.Given as goal
 
 abbrev pub invariant-loop-g : goal.invariant-loop-g
-invariant-loop-g l = Hearing standard (view l.initial.u.tracker) l.gaps.at.now (view l.u.tracker) l.g-index
+invariant-loop-g l = Hearing standard (view l.initial.u.tracker) l.gaps (view l.u.tracker) l.g-index

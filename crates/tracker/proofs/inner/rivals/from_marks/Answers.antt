@@ -13,7 +13,7 @@ pub invariant_of-result : goal.invariant_of-result
 invariant_of-result c =
     let l = c.args.marks.at.now in
     let t = c.element_gaps-t.result in
-    let r = heard_ready l c.args.gaps.at.now _ (view t.tracker) (durations_in l c.args.marks.held) c.requires
+    let r = heard_ready l c.args.gaps.now _ (view t.tracker) (durations_in l c.args.marks.held) c.requires.any
     c.args.marks.few c.locked.ensures c.element_gaps-t.ensures in
     record { held = timed_sound t.tracker c.timed.result t.held r c.timed.ensures }
 
