@@ -59,28 +59,40 @@ pub fn turned(p: ClusterPair) -> ClusterPair
     }
 }
 
+// The pair of the three-to-one reading.
+pub fn other_pair(p: ClusterPair) -> ClusterPair
+    ensures { (view_pair result ≡ other_pair (view_pair p)) × (result.init_len ≤ 12) }
+{
+    if p.placeholder_is_lo {
+        return ClusterPair {
+            lo: p.hi,
+            hi: 3.0 * p.hi,
+            ..ASSUMED
+        };
+    }
+    ClusterPair {
+        lo: p.lo / 3.0,
+        hi: p.lo,
+        placeholder_is_lo: true,
+        ..ASSUMED
+    }
+}
+
+// Whether a pair has a three-to-one reading whose dit is in its limits.
+pub fn has_other(p: ClusterPair) -> bool
+    ensures { result ≡ has_other standard (view_pair p) }
+{
+    p.ready && !p.confirmed && within(other_pair(p).lo, 20.0, 150.0)
+}
+
 // The three-to-one reading of an unconfirmed lock, where its dit is in its limits.
-pub fn other_pair(p: ClusterPair) -> Option<ClusterPair>
+pub fn three_to_one(p: ClusterPair) -> Option<ClusterPair>
     ensures is { option_map view_pair result ≡
         cond (has_other standard (view_pair p)) (Some (other_pair (view_pair p))) None }
     ensures counted { IfSome result (λ q. q.init_len ≤ 12) }
 {
-    let other = if p.placeholder_is_lo {
-        ClusterPair {
-            lo: p.hi,
-            hi: 3.0 * p.hi,
-            ..ASSUMED
-        }
-    } else {
-        ClusterPair {
-            lo: p.lo / 3.0,
-            hi: p.lo,
-            placeholder_is_lo: true,
-            ..ASSUMED
-        }
-    };
-    if p.ready && !p.confirmed && within(other.lo, 20.0, 150.0) {
-        Some(other)
+    if has_other(p) {
+        Some(other_pair(p))
     } else {
         None
     }

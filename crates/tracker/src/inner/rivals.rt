@@ -14,7 +14,7 @@ use crate::inner::gaps::on_element_gap;
 use crate::inner::speed::{bound, dit_estimate, timed};
 use marks::Marks;
 use pair::inner::lock::initialize;
-use pair::inner::readings::other_pair;
+use pair::inner::readings::three_to_one;
 use ranges::Duration;
 
 // A fresh tracker with a lock from marks.
@@ -66,7 +66,7 @@ pub fn from_marks(marks: Marks, gaps: &[f32]) -> SoundTracker
 pub fn three_to_one_alternative(t: SoundTracker) -> Option<SoundTracker>
     ensures { other result ≡ three_to_one standard (view t.tracker) }
 {
-    let pair = other_pair(t.tracker.pair)?;
+    let pair = three_to_one(t.tracker.pair)?;
     let mut u = fresh().tracker;
     u.pair = pair;
     Some(SoundTracker {
