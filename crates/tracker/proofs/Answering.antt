@@ -1,7 +1,24 @@
 -- What the refusals say of a number they let pass, what an option says of its test, and what a call says that leaves a
 -- tracker as it is. Assumes nothing.
-use Rattle.std.proofs.Common.{◌≡◌, ℕ, Bool, true, false, cond, T, arith, refl, sym, ap, ◌∙◌}
-use Rattle.std.proofs.Math.Option.{none, some, none-ne-some}
+use Rattle.std.proofs.Common.{
+  ◌≡◌,
+  ℕ,
+  Bool,
+  true,
+  false,
+  cond,
+  T,
+  arith,
+  refl,
+  sym,
+  ap,
+  ◌∙◌,
+  Option as Given,
+  Some,
+  None,
+}
+use Rattle.std.proofs.Math.Option.{none, some, none-ne-some, some-ne-none, some-injective}
+use Rattle.std.specs.Option.{unwrap_or}
 use lib.Ieee.{Float}
 use lib.Ieee.Positive.{positive}
 use Rattle.ranges.specs.Limits.{duration_min, duration_max, duration_refusal}
@@ -10,7 +27,9 @@ use Rattle.marks.specs.Lists.{duration}
 use Rattle.marks.proofs.Bounds.{outside}
 use Rattle.ranges.specs.Settings.{standard}
 use Rattle.tracker.specs.declared.SpeedTracker.{SpeedTracker}
+use Rattle.tracker.specs.declared.sound_tracker.SoundTracker.{SoundTracker}
 use Rattle.tracker.specs.Model.{Tracker, view}
+use Rattle.tracker.specs.Parts.{other}
 use Rattle.tracker.specs.Sound.{sound}
 use Rattle.tracker.specs.Answers.{Answer, Answers, unless, speed_refusal}
 
@@ -37,6 +56,14 @@ module _ {A : Type 0} (b : Bool) (x : A) where
 pub none_of : {A : Type 0} (b : Bool) (x : A) → none ≡ cond b (some x) none → b ≡ false
 none_of true x e = absurd (none-ne-some x e)
 none_of false x e = refl
+
+-- a tracker that stays where there is no other
+pub or_same : (b : Bool) (x : Tracker) (o : Given SoundTracker) (t : SoundTracker)
+    → other o ≡ cond b (some x) none → (b ≡ false → view t.tracker ≡ x) → view (unwrap_or o t).tracker ≡ x
+or_same true x (Some u) t e h = some-injective (view u.tracker) x e
+or_same false x (Some u) t e h = absurd (some-ne-none (view u.tracker) e)
+or_same true x None t e h = absurd (none-ne-some x e)
+or_same false x None t e h = h refl
 
 -- a sound tracker that stays as it is
 pub as_it_was : (t : SpeedTracker) (n : ℕ) (a said : Answer) (m : Tracker) → T (sound standard t) → n ≡ 0 → said ≡ a

@@ -155,7 +155,7 @@ impl SpeedTracker {
             (told flag result) (bootstrapped standard (view self.old)) self.new }
     {
         let t = SoundTracker::try_from(*self)?;
-        let Some(begun) = begin::bootstrap(t) else {
+        let Some(begun) = begin::begun(t) else {
             return Ok(false);
         };
         *self = begun.tracker;
@@ -202,7 +202,7 @@ impl SpeedTracker {
     {
         let t = SoundTracker::try_from(*self)?;
         let gaps = Gaps::try_from(gaps_ms)?;
-        let Some(turned) = resolve::resolve_unimodal_bootstrap(t, gaps) else {
+        let Some(turned) = resolve::resolved(t, gaps) else {
             return Ok(false);
         };
         *self = turned.tracker;

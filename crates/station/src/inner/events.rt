@@ -21,7 +21,7 @@ use marks::Marks;
 use ranges::Duration;
 use station_model::{Code, Event};
 use tracker::SoundTracker;
-use tracker::inner::begin::{bootstrap, seed_wpm};
+use tracker::inner::begin::{begun, seed_wpm};
 use tracker::inner::mark as learnt;
 
 // The primary became ready, and is p: the bank hears of it, with the recent marks, oldest first.
@@ -83,7 +83,7 @@ pub(crate) fn finish(s: OpenStation) -> Outcome
     ensures { Stands result (accepted (view s.station) (acted standard (view s.station) Finish)) }
 {
     let p = s.primary();
-    if let Some(q) = bootstrap(p) {
+    if let Some(q) = begun(p) {
         return begin(s, q);
     }
     let t = unchanged(s.bank().bank);

@@ -51,8 +51,15 @@ pub fn fresh() -> SoundTracker
     SoundTracker { tracker }
 }
 
+// A finish: one that cannot begin stays as it is.
+pub fn bootstrap(t: SoundTracker) -> SoundTracker
+    ensures { view result.tracker ≡ bootstrapped standard (view t.tracker) }
+{
+    begun(t).unwrap_or(t)
+}
+
 // A finish: the tracker that it makes ready, of one that can begin: unready, with two start marks at least.
-pub fn bootstrap(t: SoundTracker) -> Option<SoundTracker>
+pub fn begun(t: SoundTracker) -> Option<SoundTracker>
     ensures { other result ≡ cond (can_begin (view t.tracker)) (some (bootstrapped standard (view t.tracker))) none }
 {
     if t.tracker.pair.ready || t.tracker.pair.init_len < 2 {

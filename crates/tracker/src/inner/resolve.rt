@@ -12,8 +12,15 @@ use crate::inner::speed::{bound, timed};
 use marks::Gaps;
 use pair::inner::readings::{says_dahs, turned};
 
-// Assumed dits are read as dahs, where the gaps say so.
-pub fn resolve_unimodal_bootstrap(t: SoundTracker, gaps: Gaps) -> Option<SoundTracker>
+// Assumed dits are read as dahs where the gaps say so; else the tracker stays as it is.
+pub fn resolve_unimodal_bootstrap(t: SoundTracker, gaps: Gaps) -> SoundTracker
+    ensures { view result.tracker ≡ resolved standard (view t.tracker) gaps.entry.at.now }
+{
+    resolved(t, gaps).unwrap_or(t)
+}
+
+// Assumed dits read as dahs, where the gaps say so.
+pub fn resolved(t: SoundTracker, gaps: Gaps) -> Option<SoundTracker>
     ensures { other result ≡ cond (gaps_say_dahs standard (view t.tracker).pair gaps.entry.at.now)
         (some (resolved standard (view t.tracker) gaps.entry.at.now)) none }
 {
