@@ -137,7 +137,7 @@ abbrev pub is_ring : PlainTracker → Bool
 is_ring p = list_all is_entry (take p.ring_len p.ring)
 
 -- ---- the tracker: "Places beyond a count and numbers marked absent are no part of a state", so they are left empty;
--- on the way back they are read as they stand
+-- on the way back what is beyond a count is read as it stands, and a number marked absent is none
 
 abbrev pub plain_tracker : SpeedTracker → PlainTracker
 plain_tracker t = record {
