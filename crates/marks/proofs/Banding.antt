@@ -2,18 +2,22 @@
 use mathlib.Core.Path.{◌≡◌, refl}
 use mathlib.Core.Bool.{Bool, true, false, cond, ◌&&◌}
 use mathlib.Core.List.{List, [], ◌∷◌}
+use Prim.Native.Nat.{◌≤◌, ◌<◌}
 use lib.Dec.{T}
+use lib.ListN.{length}
 use lib.Ieee.{Float, binary32, mul, div, lt, le, of_bits}
 use lib.Ieee.Scale.{finite}
+use borrow.Author.Tests.{le-leb, lt-leb}
 use Rattle.ranges.specs.Settings.{standard}
 use Rattle.ranges.specs.Limits.{duration_min, duration_max}
 use Rattle.ranges.specs.Interval.{In}
+use Rattle.ranges.specs.Mean.{mean64}
 use Rattle.ranges.proofs.Signed.{le_trans_float}
 use Rattle.ranges.proofs.Compare.{lt→le, passed}
 use Rattle.ranges.proofs.Interval.{mul_in}
-use Rattle.marks.specs.Constants.{one, dah_gap_frac}
+use Rattle.marks.specs.Constants.{one, dah_gap_frac, cv_max}
 use Rattle.marks.specs.Lists.{duration, all_durations}
-use Rattle.marks.specs.Band.{in_band, band}
+use Rattle.marks.specs.Band.{in_band, band, agree, deviation}
 use Rattle.marks.proofs.Bounds.{both, join, outside}
 
 -- ---- the band of a dit from 20 to 150 lies among the durations
@@ -50,3 +54,10 @@ band_in lo (g ∷ gs) i = go (in_band standard lo g) refl (band_in lo gs i)
     go true e m =
         join (duration g) (all_durations (band standard lo gs)) (outside duration_min duration_max g (one_in e)) m
     go false e m = m
+
+-- ---- the tests, from what the code computed
+pub agrees : (l : List Float) (m v : Float) → 2 ≤ length l → m ≡ mean64 l → v ≡ deviation m l → lt v cv_max ≡ agree l
+agrees l m v h M W = rw (le-leb 2 (length l) h, W, M)
+
+pub disagrees : (l : List Float) → length l < 2 → false ≡ agree l
+disagrees l h = rw (lt-leb 2 (length l) h)

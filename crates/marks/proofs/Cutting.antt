@@ -5,7 +5,7 @@ use mathlib.Core.List.{List, [], ◌∷◌}
 use Prim.Native.Nat.{ℕ, zero, suc, ◌+◌, ◌-◌, ◌*◌, ◌≤◌, ◌<◌}
 use native.Mathlib.Numerals.{add-one}
 use native.Mathlib.Omega.{arith}
-use lib.Seq.{take_all}
+use lib.Seq.{length-take-le, get_or-take, take_all}
 use lib.IntN.{pos}
 use lib.Dec.{T}
 use lib.ListN.{length, take, drop, get_or, length-drop, drop_of_length-le}
@@ -177,6 +177,13 @@ parts_two [] h m e = absurd (omega arith)
 parts_two (x ∷ []) h m e =
     absurd (below_two (le_trans_float two (div binary32 x x) unit (passed e) (self_ratio x (between duration_min x duration_max tt tt m.0.0 m.0.1))))
 parts_two (x ∷ y ∷ ys) h m e = omega arith
+
+-- ---- the first n places of an array, as the code reads them
+pub parts_is : (s : List Float) (n : ℕ) → 1 ≤ n → n ≤ length s
+    → parts (take n s) ≡ le two (div binary32 (get_or s (n - 1) nan) (get_or s 0 nan))
+parts_is s n h l =
+    let e : length (take n s) ≡ n = length-take-le n s l in
+    rw (e, get_or-take n s (n - 1) nan (omega arith), get_or-take n s 0 nan (omega arith))
 
 pub back_is : (s : List Float) (n : ℕ) → take (length s - n) (drop n s) ≡ drop n s
 back_is s n = take_all (length s - n) (drop n s) (let e = length-drop n s in omega arith)

@@ -6,6 +6,7 @@ use Prim.Native.Nat.{ℕ, zero, suc}
 use lib.ListN.{take}
 use lib.Ieee.{Float}
 use Rattle.std.specs.Prelude.{Option as Given, Some, None, is_some}
+use Rattle.std.specs.Bool.{then_some}
 use Rattle.ranges.specs.Limits.{nought}
 use Rattle.ranges.specs.Settings.{Settings}
 use Rattle.std.specs.List.{list_all}
@@ -46,9 +47,17 @@ flag_named true = refl
 flag_named false = refl
 
 -- a number that may be absent
-optional_back : (x : Given Float) → optional (has x) (or_nought x) ≡ x
+pub optional_back : (x : Given Float) → optional (has x) (or_nought x) ≡ x
 optional_back None = refl
 optional_back (Some x) = refl
+
+-- what is emptied stays so
+pub emptied : (n : ℕ) (x : Float) → or_nought (optional n (or_nought (optional n x))) ≡ or_nought (optional n x)
+emptied n x = go (as_flag n)
+  where
+    go : (b : Bool) → or_nought (then_some b (or_nought (then_some b x))) ≡ or_nought (then_some b x)
+    go true = refl
+    go false = refl
 
 -- ---- a tracker whose places beyond a count are empty
 

@@ -3,11 +3,15 @@
 use Rattle.std.proofs.Common.{
   ◌≡◌,
   ℕ,
+  ◌≤◌,
   Bool,
   true,
   false,
   cond,
   T,
+  leb,
+  List,
+  length,
   arith,
   refl,
   sym,
@@ -16,6 +20,7 @@ use Rattle.std.proofs.Common.{
   Option as Given,
   Some,
   None,
+  leb→le,
 }
 use Rattle.std.proofs.Math.Option.{none, some, none-ne-some, some-ne-none, some-injective}
 use Rattle.std.specs.Option.{unwrap_or}
@@ -23,7 +28,7 @@ use lib.Ieee.{Float}
 use lib.Ieee.Positive.{positive}
 use Rattle.ranges.specs.Limits.{duration_min, duration_max, duration_refusal}
 use Rattle.ranges.proofs.Door.{unrefused_in}
-use Rattle.marks.specs.Lists.{duration}
+use Rattle.marks.specs.Lists.{duration, list_refusal}
 use Rattle.marks.proofs.Bounds.{outside}
 use Rattle.ranges.specs.Settings.{standard}
 use Rattle.tracker.specs.declared.SpeedTracker.{SpeedTracker}
@@ -36,6 +41,9 @@ use Rattle.tracker.specs.Answers.{Answer, Answers, unless, speed_refusal}
 eight : ◌≡◌ {A = ℕ} 8 0 → ⊥
 eight e = omega arith
 
+four : ◌≡◌ {A = ℕ} 4 0 → ⊥
+four e = omega arith
+
 pub good_duration : (d : Float) → duration_refusal d ≡ 0 → T (duration d)
 good_duration d e = outside duration_min duration_max d (unrefused_in d e)
 
@@ -45,6 +53,13 @@ good_speed v e = go (positive v) e
     go : (b : Bool) → ◌≡◌ {A = ℕ} (cond b 0 8) 0 → T b
     go true e = tt
     go false e = absurd (eight e)
+
+pub good_list : (l : List Float) → list_refusal l ≡ 0 → length l ≤ 12
+good_list l e = leb→le (length l) 12 (go (leb (length l) 12) e)
+  where
+    go : (b : Bool) → ◌≡◌ {A = ℕ} (cond b 0 4) 0 → T b
+    go true e = tt
+    go false e = absurd (four e)
 
 module _ {A : Type 0} (b : Bool) (x : A) where
   pub some_when : (r : A) → b ≡ true → r ≡ x → some r ≡ cond b (some x) none

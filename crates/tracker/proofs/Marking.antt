@@ -11,6 +11,7 @@ use Rattle.std.proofs.Common.{
   cond,
   not,
   ◌&&◌,
+  ◌==◌,
   T,
   List,
   [],
@@ -59,6 +60,16 @@ pub rung_drivable : (u c g : Tracker) (x : RingEntry) → c ≡ bound standard u
 rung_drivable u c g x C P v t =
     subst Drivable (sym (P ∙ ap (λ (z : Tracker). rung z x) C))
     (record { ring = pushed_all (entry_sound standard) 12 u.ring x v.ring t; recent = v.recent; held = v.held })
+
+-- ---- a tracker that was not
+pub opens : (k : Settings) (u w r : Tracker) → u.pair.ready ≡ true
+    → w ≡ bound k (with_uncorroborated u (u.pair.lo_n == 1)) → r ≡ spoken k w → r ≡ opened k u
+opens k u w r e W R =
+    R ∙ ap (spoken k) W
+    ∙ sym (ap (λ (b : Bool). cond b (spoken k (bound k (with_uncorroborated u (u.pair.lo_n == 1)))) u) e)
+
+pub waits : (k : Settings) (u : Tracker) → u.pair.ready ≡ false → u ≡ opened k u
+waits k u e = sym (ap (λ (b : Bool). cond b (spoken k (bound k (with_uncorroborated u (u.pair.lo_n == 1)))) u) e)
 
 -- ---- the whole
 module _ (k : Settings) (m : Tracker) (d : Float) (a : Tracker) (A : a ≡ with_recent m (pushed 5 m.recent d)) (q : Pair)

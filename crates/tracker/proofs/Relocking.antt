@@ -116,3 +116,12 @@ pub begin_can : (t : SpeedTracker) → t.pair.ready ≡ false → 2 ≤ length (
 begin_can t e h =
     let n = length (view t).pair.init in
     is_true (can_begin (view t)) (join (not t.pair.ready) (leb 2 n) (T_from_false t.pair.ready e) (le→leb 2 n h))
+
+-- the start marks of a tracker that can begin
+pub begin_counts : (t : SpeedTracker) → length t.pair.init ≡ 12 → t.pair.init_len ≤ 12 → can_begin (view t) ≡ true
+    → 1 ≤ t.pair.init_len
+begin_counts t h c e =
+    let p = both (not t.pair.ready) (leb 2 (length (take t.pair.init_len t.pair.init))) (passed e) in
+    let q = leb→le 2 (length (take t.pair.init_len t.pair.init)) p.1 in
+    let w = length-take-le t.pair.init_len t.pair.init (omega arith) in
+    omega arith

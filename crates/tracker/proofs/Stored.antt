@@ -9,11 +9,11 @@ use denote.Shadow.{shadow}
 use denote.Struct.Declared.{shape}
 use Rattle.ranges.specs.declared.duration.Duration.{Duration}
 use Rattle.ranges.specs.Interval.{In}
-use Rattle.ranges.specs.Limits.{duration_min, duration_max}
+use Rattle.ranges.specs.Limits.{duration_min, duration_max, dah_min, dah_max}
 use Rattle.ranges.specs.Settings.{standard}
 use Rattle.ranges.proofs.Compare.{passed}
 use Rattle.ranges.proofs.Standard.{standard_good, standard_held}
-use Rattle.tracker.specs.Steps.{settled}
+use Rattle.tracker.specs.Steps.{dit_estimate, settled}
 use Rattle.tracker.specs.declared.SpeedTracker.{SpeedTracker}
 use Rattle.tracker.specs.declared.sound_tracker.SoundTracker.{SoundTracker}
 use Rattle.tracker.specs.Model.{Tracker, view}
@@ -25,7 +25,7 @@ use Rattle.tracker.specs.contracts.sound_tracker.SoundTracker as Sounds
 use Rattle.marks.specs.Lists.{duration}
 use Rattle.marks.proofs.Bounds.{outside}
 use Rattle.tracker.proofs.Soundness.{sound_fine, sound_by, proper_of}
-use Rattle.tracker.proofs.Keeping.{fits_or, Floats, Sane, ready_dit}
+use Rattle.tracker.proofs.Keeping.{fits_or, Floats, Sane, ready_dit, ready_dah, ready_estimate}
 
 -- a duration's bounds, as the definitions test them
 pub lasts : (d : Duration) → T (duration d.ms)
@@ -62,11 +62,25 @@ pub unflagged_view : (r t : SpeedTracker) → r ≡ unflagged t → view r ≡ s
 unfolding settled unflagged
 unflagged_view r t e = ap view e
 
+pub init_long : (t : SpeedTracker) (v : Valss (shape the_type).fields)
+    → shadow (owns (shape the_type).fields (the_type.to t) v) → length t.pair.init ≡ 12
+init_long t v g = g.0.1.1.1.1.0.1.0.1
+
 pub ring_long : (t : SpeedTracker) (v : Valss (shape the_type).fields)
     → shadow (owns (shape the_type).fields (the_type.to t) v) → length t.ring ≡ 12
 ring_long t v g = g.1.0.1.0.1
+
+pub recent_long : (t : SpeedTracker) (v : Valss (shape the_type).fields)
+    → shadow (owns (shape the_type).fields (the_type.to t) v) → length t.recent ≡ 5
+recent_long t v g = g.1.1.1.1.0.1.0.1
 
 -- ---- what a ready one says, for the layers above
 module _ (t : SpeedTracker) (s : T (sound standard t)) (e : t.pair.ready ≡ true) where
   pub ready_dit_in : In standard.dit_min standard.dit_max t.pair.lo
   ready_dit_in = ready_dit standard standard_good standard_held (view t) (sound_fine standard t s) e
+
+  pub ready_dah_in : In dah_min dah_max t.pair.hi
+  ready_dah_in = ready_dah standard standard_good standard_held (view t) (sound_fine standard t s) e
+
+  pub ready_estimate_in : In standard.dit_min standard.dit_max (dit_estimate standard (view t))
+  ready_estimate_in = ready_estimate standard standard_good standard_held (view t) (sound_fine standard t s) e
