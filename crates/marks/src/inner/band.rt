@@ -4,13 +4,13 @@ ghost use Rattle.ranges.specs.Settings.{standard};
 ghost use Rattle.marks.specs.Band.{in_band, agree, band};
 
 use crate::{Gaps, List, Marks};
+use order::is_finite32;
 
 // Whether a gap lies in the band of the dit lo.
-#[tactic(auto, using(order::proofs::Library::is_finite_law))]
 pub(crate) fn in_band(lo: f32, g: f32) -> bool
     ensures { result ≡ in_band standard lo g }
 {
-    g.is_finite() && lo * (1.0 / 6.0) <= g && g < lo * 0.577_35
+    is_finite32(g) && lo * (1.0 / 6.0) <= g && g < lo * 0.577_35
 }
 
 // The gaps that lie in the band of the dit lo, in order.

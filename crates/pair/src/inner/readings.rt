@@ -9,6 +9,7 @@ use crate::ClusterPair;
 use crate::inner::lock::ASSUMED;
 use marks::inner::band::banded;
 use marks::{Gaps, Marks};
+use order::is_finite32;
 use ranges::within;
 
 // A lock on the dit of a seed.
@@ -24,11 +25,10 @@ pub fn seed_pair(dit: f32) -> ClusterPair
 }
 
 // Whether the lock is on assumed dits of 60 ms at least.
-#[tactic(auto, using(order::proofs::Library::is_finite_law))]
 pub(crate) fn unsure(p: ClusterPair) -> bool
     ensures { result ≡ unsure standard (view_pair p) }
 {
-    p.ready && !p.confirmed && !p.placeholder_is_lo && p.lo.is_finite() && !(p.lo < 3.0 * 20.0)
+    p.ready && !p.confirmed && !p.placeholder_is_lo && is_finite32(p.lo) && !(p.lo < 3.0 * 20.0)
 }
 
 // Whether the gaps say that the assumed dits are dahs.

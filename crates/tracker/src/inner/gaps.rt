@@ -7,6 +7,7 @@ ghost use Rattle.tracker.specs.Parts.{unflagged};
 ghost use Rattle.tracker.specs.Steps.{set_hint, gap_moved, on_gap};
 
 use crate::SoundTracker;
+use order::is_finite32;
 use ranges::Duration;
 
 // The hint, clamped; one that is not finite empties it.
@@ -14,7 +15,7 @@ pub fn set_ratio_hint(t: SoundTracker, hint: f32) -> SoundTracker
     ensures { view result.tracker ≡ set_hint standard (view t.tracker) hint }
 {
     let mut u = t.tracker;
-    u.ratio_hint = hint.is_finite().then_some(hint.clamp(2.2, 6.0));
+    u.ratio_hint = is_finite32(hint).then_some(hint.clamp(2.2, 6.0));
     SoundTracker { tracker: u }
 }
 

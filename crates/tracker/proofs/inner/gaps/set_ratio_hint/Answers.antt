@@ -1,12 +1,11 @@
 -- `tracker::inner::gaps::set_ratio_hint` meets its contract. Assumes nothing.
 use Rattle.ranges.proofs.Standard.{standard_good, standard_held}
 use Rattle.ranges.specs.Settings.{standard}
-use Rattle.std.proofs.Common.{◌≡◌, Bool, true, false, sym, ◌∙◌, Option as Given}
+use Rattle.std.proofs.Common.{◌≡◌, Bool, true, false, sym, Option as Given}
 use lib.Ieee.{Float}
 use lib.Ieee.Scale.{finite}
 use Rattle.order.specs.Order.{clamp}
 use Rattle.std.specs.Bool.{then_some}
-use Rattle.order.proofs.Library.{is_finite_law}
 use Rattle.pair.specs.Model.{held}
 use Rattle.tracker.specs.Steps.{set_hint}
 use Rattle.tracker.specs.Model.{Tracker, view, with_hint}
@@ -29,7 +28,7 @@ invariant_of-result c =
     record {
       held =
           still _ _ (
-            hinted (view t.tracker) c.args.hint _ _ _ (c.is_finite.ensures.value ∙ is_finite_law c.args.hint)
+            hinted (view t.tracker) c.args.hint _ _ _ c.is_finite32.ensures
                 c.clamp.ensures.value c.then_some-u.ensures,
             record { init = k.init; ring = k.ring; recent = k.recent },
           )
@@ -39,5 +38,5 @@ invariant_of-result c =
 
 pub returns : goal.returns
 returns c =
-    hinted (view c.args.t.tracker) c.args.hint _ _ _ (c.is_finite.ensures.value ∙ is_finite_law c.args.hint)
+    hinted (view c.args.t.tracker) c.args.hint _ _ _ c.is_finite32.ensures
     c.clamp.ensures.value c.then_some-u.ensures
