@@ -6,7 +6,8 @@ use Rattle.marks.proofs.Cutting.{back_held, halves}
 use Rattle.marks.proofs.inner.cut.split.Goals as goal
 
 pub invariant_of-before : goal.invariant_of-before
-invariant_of-before c = record { held = take_held duration _ _ c.args.sorted.held; few = simp length-take (omega arith) }
+invariant_of-before c =
+    record { held = take_held duration _ _ c.args.sorted.held; few = simp length-take (omega arith) }
 
 pub invariant_of-after : goal.invariant_of-after
 invariant_of-after c =
