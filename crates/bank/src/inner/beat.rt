@@ -11,6 +11,7 @@ use crate::inner::among::{better, place_of};
 use crate::inner::leave::gone;
 use crate::inner::streak::{held_gap, run_on};
 use crate::{Changed, OpenBank, SoundBank};
+use bank_model::inner::leaving;
 use bank_model::inner::scores::{decayed, mark_ll};
 use bank_model::{Departures, LogPair, Measured};
 use ranges::Duration;
@@ -46,7 +47,7 @@ pub fn hear_beat(b: OpenBank, p: SpeedTracker, side: bool, l: LogPair, d: Durati
         let h = mark_one(c.challengers[i], m, true);
         if !is_kept(h, l, score) {
             let d = gone(h, l, score);
-            left.push(d);
+            leaving::push(&mut left, d);
             continue;
         }
         let e = lead_one(h, score);

@@ -12,6 +12,7 @@ ghost use Rattle.bank.specs.View.{view, told};
 
 use crate::inner::among::{better, place_of};
 use crate::{Changed, SoundBank};
+use bank_model::inner::leaving;
 use bank_model::{Cause, Departure, Departures, LogPair};
 use rival::TimingHypothesis;
 use rival::inner::each::{is_kept, lead_one, why};
@@ -56,7 +57,7 @@ pub(crate) fn prune(t: Changed, p: LogPair) -> Changed
         let h = c.challengers[i];
         if !is_kept(h, p, score) {
             let d = gone(h, p, score);
-            left.push(d);
+            leaving::push(&mut left, d);
             continue;
         }
         let e = lead_one(h, score);
@@ -78,10 +79,11 @@ pub(crate) fn all_cleared(b: SoundBank) -> Departures
 {
     let mut left = Departures::none();
     for h in &b.bank.challengers[..b.bank.challengers_len] {
-        left.push(Departure {
+        let d = Departure {
             serial: h.serial,
             cause: Cause::Cleared,
-        });
+        };
+        leaving::push(&mut left, d);
     }
     left
 }

@@ -11,6 +11,7 @@ ghost use Rattle.bank.specs.View.{view, told};
 use crate::inner::among::{any_twin, victim};
 use crate::inner::leave::unchanged;
 use crate::{Changed, SoundBank};
+use bank_model::inner::leaving;
 use bank_model::inner::scores::{centroid_logs, duplicates};
 use bank_model::{Cause, Departure, Departures, LogPair, Origin};
 use rival::TimingHypothesis;
@@ -59,10 +60,11 @@ pub(crate) fn replace(b: SoundBank, v: Option<(usize, f32)>, h: TimingHypothesis
         None => unchanged(b),
         Some((i, _)) => {
             let mut gone = Departures::none();
-            gone.push(Departure {
+            let d = Departure {
                 serial: b.bank.challengers[i].serial,
                 cause: Cause::Replaced,
-            });
+            };
+            leaving::push(&mut gone, d);
             let mut c = b.bank;
             c.challengers[i] = h;
             c.started = b.bank.started.wrapping_add(1);

@@ -19,13 +19,13 @@ impl Departures {
             left_len: 0,
         }
     }
+}
 
-    // One more left.
-    pub fn push(&mut self, d: Departure)
-        requires { self.old.left_len < most_left }
-        ensures { those self.new ≡ those self.old ++ (d ∷ []) }
-    {
-        self.left[self.left_len] = d;
-        self.left_len += 1;
-    }
+// One more left.
+pub fn push(gone: &mut Departures, d: Departure)
+    requires { gone.old.left_len < most_left }
+    ensures { those gone.new ≡ those gone.old ++ (d ∷ []) }
+{
+    gone.left[gone.left_len] = d;
+    gone.left_len += 1;
 }
