@@ -34,7 +34,7 @@ use Rattle.rival.proofs.Each.{gap_scored}
 use Rattle.bank.specs.declared.TimingBank.{TimingBank}
 use Rattle.bank.specs.View.{view}
 use Rattle.bank.specs.Sturdy.{Sturdy}
-use Rattle.bank.proofs.Leaving.{sift_many, crew_few}
+use Rattle.bank.proofs.Leaving.{sift_many, crew_few_sturdy}
 
 -- a bank with other scores, held gap and counts
 abbrev pub heard_bank : TimingBank → Float → Float → Given.Option Float → ℕ → ℕ → TimingBank
@@ -137,7 +137,7 @@ pub few_marked : (b : TimingBank) → Sturdy b → (p : Tracker) (l : LogPair) (
     length (and_then t (pruned_at standard l.lo l.hi)).left ≤ most_left
 few_marked b s p l d live t el et =
     let n = few_heard standard standard_good (view b) s.score p d live in
-    let k = crew_few b s in
+    let k = crew_few_sturdy b s in
     let m = sift_many b s in
     subst (λ (x : Told). length x.left ≤ most_left) (sym (both_told (view b) p l d live t el et)) (omega arith)
   where

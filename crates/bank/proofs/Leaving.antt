@@ -342,18 +342,18 @@ pub heard_many : (m : Hyp → Hyp) (b : TimingBank) → Sturdy b → length (map
 heard_many m b s = length-map (view b).challengers m ∙ sift_many b s
 
 -- there are fewer challengers than the widest bank has places for
-pub crew_few : (b : TimingBank) → Sturdy b → b.challengers_len ≤ most_left
-crew_few b s =
-    let w = s.wide in
-    let k = s.below in
-    omega arith
+pub crew_few : (b : TimingBank) → b.width ≤ widest → b.challengers_len < b.width → b.challengers_len ≤ most_left
+crew_few b wide below = omega arith
+
+pub crew_few_sturdy : (b : TimingBank) → Sturdy b → b.challengers_len ≤ most_left
+crew_few_sturdy b s = crew_few b s.wide s.below
 
 -- as many as there are challengers may leave
 pub few_heard : (f : Hyp → Option Cause) (b : TimingBank) (crowd : List Hyp) → Sturdy b
     → length crowd ≡ b.challengers_len → length (leaving f crowd) ≤ most_left
 few_heard f b crowd s e =
     let n = few_leaving f crowd in
-    let k = crew_few b s in
+    let k = crew_few_sturdy b s in
     omega arith
 
 module _ (f : Hyp → Option Cause) (u : Hyp → Hyp) (q : Hyp →
@@ -540,7 +540,7 @@ module _ (b : TimingBank) where
   note_room left i h k =
       let s = k.sturdy in
       let j = below i s h in
-      let n = crew_few b s in
+      let n = crew_few_sturdy b s in
       let v = sift_many b s in
       let e : length (map gone_cleared (take i (view b).challengers)) ≡ i =
       view_length gone_cleared i (view b).challengers (omega arith) in
