@@ -79,8 +79,8 @@ impl TimingBank {
             ≡ showing (bank_then standard self.now 0)
             (get_elem? (take self.now.challengers_len self.now.challengers) i) }
     {
-        let s = sound(*self)?;
-        let held = &s.bank.challengers[..s.bank.challengers_len];
+        let crew = sound(*self)?;
+        let held = &crew.bank.challengers[..crew.bank.challengers_len];
         Ok(nth(held, i))
     }
 
@@ -88,8 +88,8 @@ impl TimingBank {
     pub fn switch_record(&self, i: usize) -> Result<Option<SwitchRecord>, Refusal>
         ensures { of_shown result ≡ showing (bank_then standard self.now 0) (get_elem? (view self.now).log i) }
     {
-        let s = sound(*self)?;
-        let log = &s.bank.log[..s.bank.log_len];
+        let logged = sound(*self)?;
+        let log = &logged.bank.log[..logged.bank.log_len];
         Ok(nth(log, i))
     }
 
@@ -124,8 +124,8 @@ impl TimingBank {
     {
         let (s, p) = sound_both(*self, primary)?;
         let o = count_on(s)?;
-        let d = Duration::try_from(dur_ms)?;
-        *self = gap::on_gap(o, p, d).bank;
+        let length = Duration::try_from(dur_ms)?;
+        *self = gap::on_gap(o, p, length).bank;
         Ok(())
     }
 

@@ -141,7 +141,7 @@ pub(crate) fn step_streak(
     let k = candidate(c, p);
     let e = empty(c);
     match k {
-        Some(t) => spawn(e, p, t, Origin::Streak),
+        Some(found) => spawn(e, p, found, Origin::Streak),
         None => unchanged(e),
     }
 }

@@ -7,4 +7,4 @@ use Rattle.bank.proofs.TimingBank.switch_record.Goals as goal
 pub returns : goal.returns
 returns c =
     ap (λ o. of_shown (Ok o)) c.nth.ensures
-    ∙ shows c.args.self.now c.in_ok-s.s c.in_ok-s.ensures.1 (λ (b : TimingBank). take b.log_len b.log) c.args.i
+    ∙ shows c.args.self.now c.in_ok-logged.logged c.in_ok-logged.ensures.1 (λ (b : TimingBank). take b.log_len b.log) c.args.i
