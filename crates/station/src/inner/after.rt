@@ -1,5 +1,5 @@
 // What a hint, a gap and a switch make of a station: each changes one copy. Those of `events` stand on them.
-ghost use Rattle.std.specs.Prelude.{◌≡◌, cond};
+ghost use Rattle.std.specs.Prelude.{◌≡◌, cond, eqb};
 ghost use Rattle.ranges.specs.Settings.{standard};
 ghost use Rattle.bank.specs.Switching.{Chosen};
 ghost use Rattle.station_model.specs.declared.Event.TheVariants.{Gap, Hint, Switch};
@@ -14,6 +14,7 @@ use bank::inner::gap::on_gap;
 use bank::inner::switch::take_switch;
 use ranges::Duration;
 use rival::inner::each::hear_one;
+use station_model::Code;
 use tracker::inner::gaps::set_ratio_hint;
 use tracker::inner::speed::dit_estimate;
 
@@ -42,11 +43,10 @@ pub(crate) fn after_gap(s: OpenStation, d: Duration) -> Station
     t
 }
 
-// A switch, and whether the primary and a challenger were exchanged: where nothing is pending, it is only counted.
-pub(crate) fn after_switch(s: OpenStation) -> (Station, bool)
+// A switch: where nothing is pending, it is only counted.
+pub(crate) fn after_switch(s: OpenStation) -> Station
     requires { Chosen s.station.bank s.station.primary }
-    ensures { Holds result.0 (accepted (view s.station) (acted standard (view s.station) Switch)).station
-        × (cond result.1 Switched Nothing ≡ (acted standard (view s.station) Switch).code) }
+    ensures { Holds result (accepted (view s.station) (acted standard (view s.station) Switch)).station }
 {
     let mut t = s.station;
     t.accepted = s.station.accepted + 1;
@@ -55,7 +55,17 @@ pub(crate) fn after_switch(s: OpenStation) -> (Station, bool)
         t.bank = k.bank.bank;
         t.primary = k.primary.tracker;
         t.serial = k.serial;
-        return (t, k.switched);
     }
-    (t, false)
+    t
+}
+
+// 2 where the primary's serial changed, else 3.
+pub(crate) fn switching(was: u64, is: u64) -> Code
+    ensures { result ≡ cond (eqb is was) Nothing Switched }
+{
+    if is == was {
+        Code::Nothing
+    } else {
+        Code::Switched
+    }
 }

@@ -11,7 +11,7 @@ ghost use Rattle.station.specs.Parts.{Allowed, Stands};
 
 use crate::Outcome;
 use crate::inner::accept::{accept, done};
-use crate::inner::after::{after_gap, after_hint, after_switch};
+use crate::inner::after::{after_gap, after_hint, after_switch, switching};
 use crate::inner::open::OpenStation;
 use bank::inner::clear::clear;
 use bank::inner::leave::unchanged;
@@ -127,12 +127,8 @@ pub(crate) fn switch(s: OpenStation) -> Outcome
     requires { Chosen s.station.bank s.station.primary }
     ensures { Stands result (accepted (view s.station) (acted standard (view s.station) Switch)) }
 {
-    let (t, switched) = after_switch(s);
-    let code = if switched {
-        Code::Switched
-    } else {
-        Code::Nothing
-    };
+    let t = after_switch(s);
+    let code = switching(s.station.serial, t.serial);
     done(t, code)
 }
 
