@@ -13,14 +13,15 @@ use Rattle.tracker.specs.Model as Tracked
 use Rattle.tracker.specs.Sound.{sound}
 use Rattle.bank_model.specs.Model.{Bank, stay}
 use Rattle.tracker.specs.Steps.{element_gap}
-use Rattle.bank_model.specs.Steps.{Taken, on, on_gap, untaken, taken_of, take_switch}
+use Rattle.tracker.specs.Steps as Tracking
+use Rattle.bank_model.specs.Steps.{Taken, on, on_gap, on_mark, untaken, taken_of, take_switch}
 use Rattle.bank.specs.declared.TimingBank.{TimingBank}
 use Rattle.bank.specs.View as Banked
 use Rattle.bank.specs.Sturdy.{Sturdy}
 use Rattle.station_model.specs.declared.Code.{Code}
 use Rattle.station_model.specs.declared.Code.TheVariants.{Done}
 use Rattle.station_model.specs.declared.Counts.{Counts}
-use Rattle.station_model.specs.Station.{Act, ready, act, gap_act, accepted, refusal}
+use Rattle.station_model.specs.Station.{Act, ready, act, gap_act, learnt_act, live_act, accepted, refusal}
 use Rattle.station_model.specs.Station as Model
 use Rattle.station_model.proofs.Lists.{by_cond}
 use Rattle.station.specs.declared.Station.{Station}
@@ -62,6 +63,15 @@ module _ (k : Settings) (m : Model.Station) (d : Float) where
 
   pub gap_not : ready m.primary ≡ false → act m m.primary (stay m.bank) Done ≡ gap_act k m d
   gap_not r = sym (ap by_gap r)
+
+-- a live mark, by whether the primary was ready; it learnt the mark, and is q
+module _ (k : Settings) (m : Model.Station) (d : Float) where
+  abbrev live_by : Bool → Tracker → Act
+  live_by h p = cond h (act m p (on_mark k m.bank p d true) Done) (learnt_act k m p)
+
+  pub live_by_law : (q : Tracker) → q ≡ Tracking.on_mark k m.primary d → (h : Bool) → ready m.primary ≡ h
+      → live_by h q ≡ live_act k m d
+  live_by_law q e h r = ap (live_by h) e ∙ sym (ap (λ (x : Bool). live_by x (Tracking.on_mark k m.primary d)) r)
 
 -- a switch where nothing is pending
 pub idle : (b : Bank) (p : Tracker) (n : ℕ) → b.pending ≡ none → untaken b p n ≡ take_switch b p n
