@@ -27,6 +27,10 @@ following_le n = omega arith
 
 -- ---- ones and noughts
 
+pub ind_le : (b : Bool) → ind b ≤ 1
+ind_le true = omega arith
+ind_le false = omega arith
+
 pub ind_true : (b : Bool) → b ≡ true → ind b ≡ 1
 ind_true b e = ap ind e
 

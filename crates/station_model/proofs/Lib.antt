@@ -13,5 +13,6 @@ pub mod Recall
 pub mod Rule
 pub mod Whole
 pub mod Counted
+pub mod Ordered
 pub mod Examples
 pub mod Naming
