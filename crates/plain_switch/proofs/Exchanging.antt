@@ -1,13 +1,13 @@
 -- What a switch call hands back in plain form is what its contract says. Assumes nothing.
 use mathlib.Core.Path.{◌≡◌, refl, ap, sym, ◌∙◌, subst}
-use mathlib.Core.Bool.{Bool, true, false, cond, ◌&&◌, true≢false}
-use Prim.Native.Nat.{ℕ, zero, suc, ◌+◌}
+use mathlib.Core.Bool.{Bool, true, false, cond, not, ◌&&◌, true≢false}
+use Prim.Native.Nat.{ℕ, zero, suc, ◌+◌, ◌≤◌}
 use native.Mathlib.Omega.{arith}
 use lib.Dec.{eqb}
 use lib.Ieee.Bits.{is_true}
 use borrow.Author.Tests.{ne_eqb}
 use Rattle.ranges.specs.Settings.{standard}
-use Rattle.std.specs.Prelude.{Result, Ok, Err}
+use Rattle.std.specs.Prelude.{Result, Ok, Err, is_some}
 use Rattle.refusals.specs.declared.Refusal.{Refusal}
 use Rattle.refusals.specs.declared.Refusal.TheVariants.{UnsoundState}
 use Rattle.refusals.specs.Refusal.{number}
@@ -22,7 +22,7 @@ use Rattle.bank_model.specs.Departures.{widest}
 use Rattle.bank.specs.Sound.{sound}
 use Rattle.bank.specs.View.{view}
 use Rattle.bank.proofs.Refusing.{some_number}
-use Rattle.bank.specs.Answers.{Switches, switch_refusal}
+use Rattle.bank.specs.Answers.{Switches, full, switch_refusal}
 use Rattle.bank_model.specs.Steps.{Taken, take_switch}
 use Rattle.plain_tracker.specs.declared.PlainTracker.{PlainTracker}
 use Rattle.plain_tracker.specs.Plain.{form_then, is_tracker, plain_tracker, tracker_of}
@@ -43,6 +43,33 @@ is_said on is (suc n) e = absurd cc
 refused_said : (m n : ℕ) (is : Bool) → refused m ≡ unless n (flag is) → (m ≡ n) × (n ≡ 0 → ⊥)
 refused_said m zero is e = absurd cc
 refused_said m (suc n) is e = (cc, λ z. omega arith)
+
+-- ---- the refusals are 1 and 2
+
+one_of : (b : Bool) (m n : ℕ) → m ≤ 2 → n ≤ 2 → cond b m n ≤ 2
+one_of true m n h k = h
+one_of false m n h k = k
+
+switch_small : (b : TimingBank) (p : SpeedTracker) → switch_refusal standard b p ≤ 2
+switch_small b p =
+    one_of (sound standard widest b && Tracking.sound standard p) _ 1
+    (one_of (is_some b.pending && not p.pair.ready) 1 _ (omega arith)
+    (one_of (full b.marks_seen b.gaps_seen) 2 0 (omega arith) (omega arith)))
+    (omega arith)
+
+-- the number of the refusal in an answer, 0 where there is none
+abbrev pub refusal_in : Result Bool Refusal → ℕ
+refusal_in (Ok on) = 0
+refusal_in (Err r) = number r
+
+small_said : (f : Result Bool Refusal) (n : ℕ) (is : Bool) → n ≤ 2 → Answers.told flag f ≡ unless n (flag is)
+    → refusal_in f ≤ 2
+small_said (Ok on) n is h e = omega arith
+small_said (Err r) n is h e = let k = (refused_said (number r) n is e).0 in omega arith
+
+pub few_refusals : (b : TimingBank) (p : SpeedTracker) (serial : ℕ) (m : Taken) (k : Switched)
+    → Switches standard (switch_refusal standard b p) b p serial m k → refusal_in k.flag ≤ 2
+few_refusals b p serial m k h = small_said k.flag (switch_refusal standard b p) m.switched (switch_small b p) h.says
 
 -- ---- whether a form is a tracker's, by the refusal of one that is not
 
