@@ -23,7 +23,7 @@ use Rattle.rival.specs.Sound.{same, scores_sound, hyp_sound}
 use Rattle.rival.specs.View.{view_hyp}
 use Rattle.bank.specs.declared.TimingBank.{TimingBank}
 use Rattle.bank.specs.Sturdy.{Sturdy}
-use Rattle.bank.specs.Sound.{sound}
+use Rattle.bank.specs.Sound.{gap_sound, sound}
 use Rattle.bank.specs.View.{view_all, view}
 use Rattle.plain_tracker.specs.Plain.{as_flag, as_number, carried, first_of, zeros, has, optional, or_nought}
 use Rattle.plain_tracker.proofs.Back.{flag_back, flag_named, trimmed_tracker, tracker_back, tracker_plain, tracker_view, tracker_sound, tracker_named}
@@ -133,6 +133,10 @@ side_back (Some side) = ap Some (flag_back side)
 gap_back : (x : Given Float) → optional (has x) (or_nought x) ≡ x
 gap_back None = refl
 gap_back (Some x) = refl
+
+pub gap_sound_law : (x : Given Float) → gap_sound (optional (has x) (or_nought x)) ≡ gap_sound x
+gap_sound_law None = refl
+gap_sound_law (Some x) = refl
 
 place_back : (x : Given ℕ) → optional (has x) (or_zero x) ≡ x
 place_back None = refl
