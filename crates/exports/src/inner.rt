@@ -87,7 +87,7 @@ pub fn hullathan_inner_bank_on_mark(
     let m = bank::inner::mark::on_mark(c, q, d, live);
     BankChanged {
         bank: PlainBank::from(m.bank.bank),
-        left: plain_departures(&m.gone),
+        left: plain_departures(&m.gone.left, m.gone.left_len),
         left_len: m.gone.left_len,
     }
 }

@@ -113,7 +113,7 @@ pub(crate) fn answered(
         Ok(gone) => BankAnswered {
             code: 0,
             bank: PlainBank::from(c),
-            left: plain_departures(&gone),
+            left: plain_departures(&gone.left, gone.left_len),
             left_len: gone.left_len,
         },
         Err(r) => BankAnswered {

@@ -65,7 +65,7 @@ pub(crate) fn row_after(a: Answer, s: Station) -> PlainAnswer
         pad_dah_ms: [0; 4],
         serial: s.serial,
         challengers: s.bank.challengers_len,
-        left: plain_departures(&a.gone),
+        left: plain_departures(&a.gone.left, a.gone.left_len),
         left_len: a.gone.left_len,
     }
 }

@@ -6,7 +6,7 @@ ghost use Rattle.plain.specs.Plain.{origin_code, retained, plain_hyp, blank_hyp,
 use crate::from::no_hypothesis;
 use crate::{PlainBank, PlainDeparture, PlainHypothesis, PlainRecord};
 use bank::TimingBank;
-use bank_model::{Cause, Departure, Departures, MOST_LEFT, Origin, SwitchRecord};
+use bank_model::{Cause, Departure, MOST_LEFT, Origin, SwitchRecord};
 use plain_tracker::PlainTracker;
 use plain_tracker::inner::carried;
 use rival::TimingHypothesis;
@@ -155,14 +155,9 @@ pub fn no_departure() -> PlainDeparture
     PlainDeparture::default()
 }
 
-// Those that left in a call.
-pub fn plain_departures(gone: &Departures) -> [PlainDeparture; MOST_LEFT]
-    ensures { result ≡ carried plain_departure no_departure gone.now.left_len gone.now.left }
+// The first count of those that left in a call.
+pub fn plain_departures(left: &[Departure; MOST_LEFT], count: usize) -> [PlainDeparture; MOST_LEFT]
+    ensures { result ≡ carried plain_departure no_departure count left.now }
 {
-    carried(
-        &gone.left,
-        gone.left_len,
-        no_departure(),
-        PlainDeparture::from,
-    )
+    carried(left, count, no_departure(), PlainDeparture::from)
 }
