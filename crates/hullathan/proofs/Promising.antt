@@ -37,7 +37,7 @@ use Rattle.hullathan.specs.Host.{Answers, Few, after, asked, code_number, event_
 use Rattle.hullathan.proofs.Asking.{quiet_choice}
 use Rattle.std.proofs.lemmas.List.{length-map, length-take-le}
 use Rattle.hullathan.proofs.Running.{outcomes_long, runnable_few}
-use Rattle.hullathan.specs.Promise.{AllFit, Batched, Did, Promised, Turn, TurnedFrom, add_call, after_one, answer_of, answers_of, batch, before, call, calls_in, calls_on, cause_of, code_of, departure_of, events_of, left}
+use Rattle.hullathan.specs.Promise.{AllFit, Batched, CodesIn, Did, EachCode, Promised, Turn, TurnedFrom, add_call, after_one, answer_of, answers_of, batch, before, call, calls_in, calls_on, cause_of, code_of, departure_of, events_of, left}
 
 -- ---- numbers, read back
 
@@ -53,6 +53,12 @@ code_back BecameReady = refl
 code_back Switched = refl
 code_back Nothing = refl
 code_back (Refused r) = refused_back r
+
+-- a row's code is the number of the code that it is read as
+rows_coded : (l : List Model.Outcome) → EachCode (map row_of l)
+unfolding EachCode
+rows_coded [] = tt
+rows_coded (o ∷ l) = (sym (ap code_number (code_back o.answer.code)), rows_coded l)
 
 cause_back : (c : Cause) → cause_of (cause_code c) ≡ c
 cause_back Twin = refl
@@ -290,10 +296,20 @@ trail first h (u ∷ turns) now t = go (trail first h turns (before u) t.0)
           from = subst (λ (z : PlainStation). From (meant first) (ran_in (u ∷ turns)) (meant z)) (sym t.2) (turn_trail first (before u) (events_of u) (answers_of u) (left u) (ran_in turns) w r.from);
         }
 
+codes : (first : PlainStation) → good first ≡ true → (turns : List Turn) (now : PlainStation)
+    → TurnedFrom first turns now → CodesIn turns
+unfolding TurnedFrom CodesIn
+codes first h [] now t = tt
+codes first h (u ∷ turns) now t =
+    let w = turn_turned u (trail first h turns (before u) t.0).sound t.1 in
+    let rows = rows_coded (outcomes (meant (before u)) (map of_event (events_of u))) in
+    (codes first h turns (before u) t.0, subst EachCode (sym w.told) rows)
+
 -- ---- demand 3
 pub promises : (width : ℕ) (switching : Bool) (first : PlainStation) → good first ≡ true → meant first ≡ fresh width switching → Promised width switching first
 promises width switching first h b = record {
   holds = λ turns now t. subst (λ (l : List Call). Watch standard width switching l (meant now)) (in_viewed turns)
       (program_watch standard standard_good standard_held width switching afterwards itself answered Called Any contract (meant first) tt b (ran_in turns) (meant now) (trail first h turns now t).from);
+  codes = codes first h;
   stays = λ turns now t. (trail first h turns now t).sound;
 }

@@ -20,7 +20,7 @@ use Rattle.plain_station.specs.declared.PlainStation.{PlainStation}
 use Rattle.hullathan.specs.declared.PlainEvent.{PlainEvent}
 use Rattle.hullathan.specs.declared.PlainAnswer.{PlainAnswer}
 use Rattle.hullathan.specs.declared.PlainBatch.{PlainBatch}
-use Rattle.hullathan.specs.Host.{Answers, Neat, Runs, asked, good, meant, of_event, runnable, switches}
+use Rattle.hullathan.specs.Host.{Answers, Neat, Runs, asked, code_number, good, meant, of_event, runnable, switches}
 
 -- ---- an answer, read back from its numbers, which are document 01's
 
@@ -113,9 +113,21 @@ unfoldable pub calls_in : List Turn → List Call
 calls_in [] = []
 calls_in (t ∷ earlier) = calls_on (meant (before t)) (meant (left t)) (events_of t) (answers_of t) (calls_in earlier)
 
--- after every list of turns, the first on this memory: demand 3, and the memory holds a sound station
+-- Each answer bears the number of the code that it is read as, and so one of document 01's: no two of these are read as
+-- one code.
+unfoldable pub EachCode : List PlainAnswer → Type 0
+EachCode [] = Unit {0}
+EachCode (r ∷ rs) = (r.code ≡ code_number (code_of r.code)) × EachCode rs
+
+unfoldable pub CodesIn : List Turn → Type 0
+CodesIn [] = Unit {0}
+CodesIn (t ∷ earlier) = CodesIn earlier × EachCode (answers_of t)
+
+-- after every list of turns, the first on this memory: demand 3, each answer bears a code's number, and the memory holds
+-- a sound station
 pub record Promised (width : ℕ) (switching : Bool) (first : PlainStation) : Type 0 where
   pub holds : (turns : List Turn) (now : PlainStation) → TurnedFrom first turns now → Watch standard width switching (calls_in turns) (meant now)
+  pub codes : (turns : List Turn) (now : PlainStation) → TurnedFrom first turns now → CodesIn turns
   pub stays : (turns : List Turn) (now : PlainStation) → TurnedFrom first turns now → good now ≡ true
 
 -- ---- a start: its code, the fresh station that it leaves, and what it promises. "number 3 hands back a fresh width 1 state": one that does not switch
