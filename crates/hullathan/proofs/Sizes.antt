@@ -1,5 +1,7 @@
 -- The sizes are those of the structs as they lie in memory: no byte lies between two fields, or behind the last. Assumes nothing.
 use mathlib.Core.Path.{◌≡◌, refl}
+use Prim.Native.Nat.{ℕ}
+use borrow.Author.Tests.{ne_eqb}
 use prog.Memory.{size}
 use Rattle.sender.proofs.SenderTiming.TheLaws as N
 use Rattle.plain_sender.proofs.SenderReading.TheLaws as Q
@@ -38,3 +40,19 @@ sender_long = refl
 
 pub sender_reading_long : size Q.mir ≡ size_of 8
 sender_reading_long = refl
+
+-- a number above 8 is no struct's
+pub no_size : (n : ℕ) → (n ≡ 0 → ⊥) → (n ≡ 1 → ⊥) → (n ≡ 2 → ⊥) → (n ≡ 3 → ⊥) → (n ≡ 4 → ⊥)
+    → (n ≡ 5 → ⊥) → (n ≡ 6 → ⊥) → (n ≡ 7 → ⊥) → (n ≡ 8 → ⊥) → size_of n ≡ 0
+no_size n a b c d e f g h i =
+    rw (
+      ne_eqb n 0 a,
+      ne_eqb n 1 b,
+      ne_eqb n 2 c,
+      ne_eqb n 3 d,
+      ne_eqb n 4 e,
+      ne_eqb n 5 f,
+      ne_eqb n 6 g,
+      ne_eqb n 7 h,
+      ne_eqb n 8 i,
+    )
