@@ -64,8 +64,9 @@ pub record Sorted (m : Model.Station) (o : Model.Outcome) : Type 0 where
 abbrev Sorts : Model.Station → Model.Outcome → Type 0
 Sorts m o = Sorted m o
 
-refused_sorts : (m : Model.Station) (n : ℕ) → Sorted m (refused_by n m)
-refused_sorts m n = record { same = λ e. refl; counts = λ e. absurd (true≢false (sym e)) }
+refused_sorts : (m : Model.Station) (o : Model.Outcome) → o.station ≡ m → taken o.answer.code ≡ false
+    → Sorted m o
+refused_sorts m o s t = record { same = λ e. s; counts = λ e. absurd (true≢false (sym e ∙ t)) }
 
 outcome_sorts : (m : Model.Station) (e : Event) (n : ℕ) → Sorted m (Model.outcome standard m e n)
 outcome_sorts m e zero = record { same = λ f. absurd (true≢false (sym (acts standard m e) ∙ f)); counts = λ f. refl }
@@ -77,8 +78,9 @@ step_sorts m e = outcome_sorts m e (refusal m e)
 
 pub asked_sorts : (m : Model.Station) (o : Option Event) → Sorted m (asked m o)
 unfolding asked
-asked_sorts m none = refused_sorts m (cond (full m) 2 12)
-asked_sorts m (some e) = by_cond (Sorts m) (choice_sound m e) (λ i. step_sorts m e) (λ i. refused_sorts m 1)
+asked_sorts m none = refused_sorts m (asked m none) refl refl
+asked_sorts m (some e) =
+    by_cond (Sorts m) (choice_sound m e) (λ i. step_sorts m e) (λ i. refused_sorts m (refused_by 1 m) refl refl)
 
 -- ---- the library's own call
 
