@@ -1,6 +1,8 @@
 -- Numbers as text, as the lines of a script have them and as the programs print them. Definitions only.
 use Rattle.std.specs.Prelude.{◌&&◌, cond, List, [], ◌∷◌, ℕ, zero, suc, ◌+◌, ◌-◌, ◌*◌, ◌/◌, ◌%◌, ◌^◌, nat_le, nat_lt}
-use Rattle.std.specs.Prelude.{slice_index}
+use Rattle.std.specs.Prelude.{ltb, slice_index}
+use Rattle.std.specs.Float.{Float, binary32, nan}
+use Rattle.std.specs.Float.Ieee.{of_bits}
 
 -- ---- read
 
@@ -12,6 +14,10 @@ digit_of b = cond (nat_le 48 b && nat_le b 57) (b - 48) (cond (nat_le 65 b && na
 abbrev pub number_at : ℕ → List ℕ → ℕ → ℕ
 number_at zero line at = 0
 number_at (suc n) line at = 16 * number_at n line at + digit_of (slice_index line (at + n))
+
+-- the float of a pattern; of every pattern of a NaN, one NaN
+abbrev pub float_of : ℕ → Float
+float_of bits = cond (ltb 0x7f80_0000 (bits % 0x8000_0000)) nan (of_bits binary32 bits)
 
 -- ---- printed
 

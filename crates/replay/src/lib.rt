@@ -7,7 +7,7 @@ ghost use Rattle.std.specs.Prelude.{◌++◌, ◌/◌, ◌%◌, ◌≡◌, ◌==
 ghost use Rattle.std.specs.Prelude.{[], OnOk, IfOk, IfSome, cond, slice_index};
 ghost use Rattle.std.specs.Float.Ieee.{binary32, is_nan, to_bits};
 ghost use Rattle.std.specs.Io.KnownBytes.{Appends, Consumes};
-ghost use Rattle.replay.specs.Text.{digit_of, field_of, number_at};
+ghost use Rattle.replay.specs.Text.{digit_of, field_of, float_of, glyph_of, number_at};
 
 use std::io;
 use std::io::{ErrorKind, Read, Write};
@@ -60,7 +60,9 @@ impl Line {
     }
 
     // The first field as a float: most calls have that and nothing else.
-    pub fn float(&self) -> f32 {
+    pub fn float(&self) -> f32
+        ensures { result ≡ float_of (number_at 8 self.now.bytes 4) }
+    {
         float(self.first())
     }
 }
@@ -103,7 +105,9 @@ fn word(line: &[u8; 31], at: usize) -> u32
 }
 
 // The float of a pattern; of every pattern of a NaN, one NaN.
-pub fn float(bits: u32) -> f32 {
+pub fn float(bits: u32) -> f32
+    ensures { result ≡ float_of bits }
+{
     if bits % 0x8000_0000 > 0x7f80_0000 {
         f32::NAN
     } else {
@@ -117,11 +121,32 @@ pub fn put_byte<W: Write>(out: &mut W, b: u8) -> io::Result<()>
     out.write_all(&[b])
 }
 
-// A blank and 8 digits.
+// The digit of a value below 16.
+fn glyph(d: u32) -> u8
+    requires { d < 16 }
+    ensures { result ≡ glyph_of d }
+{
+    let digits = b"0123456789ABCDEF";
+    digits[d as usize]
+}
+
+// A blank and 8 digits, in one write, as of each value here: `write!` makes several, so that a write that fails would
+// leave another part of the text written.
 pub fn put_word<W: Write>(out: &mut W, v: u32) -> io::Result<()>
     ensures { OnOk result (Appends (W.contents out.old) (W.contents out.new) (field_of 8 v)) }
 {
-    write!(out, " {v:08X}")
+    let text = [
+        b' ',
+        glyph(v / 0x1000_0000),
+        glyph(v / 0x100_0000 % 16),
+        glyph(v / 0x10_0000 % 16),
+        glyph(v / 0x1_0000 % 16),
+        glyph(v / 0x1000 % 16),
+        glyph(v / 0x100 % 16),
+        glyph(v / 0x10 % 16),
+        glyph(v % 16),
+    ];
+    out.write_all(&text)
 }
 
 // A number of 64 bits, its upper half first.
@@ -149,7 +174,9 @@ pub fn put_float<W: Write>(out: &mut W, v: f32) -> io::Result<()>
 pub fn put_code<W: Write>(out: &mut W, code: u8) -> io::Result<()>
     ensures { OnOk result (Appends (W.contents out.old) (W.contents out.new) (field_of 2 code)) }
 {
-    write!(out, " {code:02X}")
+    let v = u32::from(code);
+    let text = [b' ', glyph(v / 16), glyph(v % 16)];
+    out.write_all(&text)
 }
 
 // A blank, and 1 for yes.
