@@ -67,15 +67,14 @@ fn read_call<W: Write>(out: &mut W, t: SenderTiming, line: &Line) -> io::Result<
     }
 }
 
-// A class set.
+// A class set: a number above 4 is read as the last.
 fn set(t: &mut SenderTiming, line: &Line) {
-    if let Ok(class) = TimingClass::try_from(line.number()) {
-        t[class] = ClassStats {
-            mean: Dits(line.float()),
-            var: float(line.second()),
-            n: line.third(),
-        };
-    }
+    let class = TimingClass::try_from(line.number()).unwrap_or(TimingClass::WordGap);
+    t[class] = ClassStats {
+        mean: Dits(line.float()),
+        var: float(line.second()),
+        n: line.third(),
+    };
 }
 
 // One call.
