@@ -3,8 +3,8 @@ use bank_model::SwitchRecord;
 use plain::{PlainBank, PlainHypothesis};
 use plain_tracker::from::flag_of;
 use replay::{put_code, put_flag, put_float, put_long, put_word};
-use shown::inner::{put_held, put_list};
-use shown::{put_count, put_tracker};
+use shown::inner::{put_list, put_option};
+use shown::{put_count, put_held, put_tracker};
 use std::io;
 use std::io::Write;
 
@@ -21,7 +21,7 @@ pub(crate) fn put_hypothesis<W: Write>(out: &mut W, h: PlainHypothesis) -> io::R
     put_flag(out, flag_of(h.reported))?;
     put_float(out, h.ln_lo)?;
     put_float(out, h.ln_hi)?;
-    put_tracker(out, h.tracker)
+    put_tracker(out, &h.tracker)
 }
 
 pub(crate) fn put_record<W: Write>(out: &mut W, r: SwitchRecord) -> io::Result<()> {
@@ -38,7 +38,7 @@ pub(crate) fn put_short<W: Write>(out: &mut W, b: PlainBank) -> io::Result<()> {
     put_float(out, b.primary_gap_score)?;
     put_long(out, b.marks_seen)?;
     put_long(out, b.gaps_seen)?;
-    put_held(out, flag_of(b.has_pending).then_some(b.pending), put_count)?;
+    put_option(out, flag_of(b.has_pending).then_some(b.pending), put_count)?;
     put_long(out, b.started)
 }
 
@@ -51,12 +51,8 @@ pub(crate) fn put_bank<W: Write>(out: &mut W, b: PlainBank) -> io::Result<()> {
     put_list(out, &b.streak, b.streak_len, put_float)?;
     put_list(out, &b.streak_gaps, b.streak_gaps_len, put_float)?;
     let side = flag_of(b.has_side).then_some(flag_of(b.streak_side));
-    put_held(out, side, put_flag)?;
-    put_held(
-        out,
-        flag_of(b.has_last_gap).then_some(b.last_gap),
-        put_float,
-    )?;
+    put_option(out, side, put_flag)?;
+    put_held(out, flag_of(b.has_last_gap), b.last_gap)?;
     put_list(
         out,
         &b.log,

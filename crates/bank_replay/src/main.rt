@@ -12,8 +12,11 @@ use crate::banks::{put_bank, put_hypothesis, put_record, put_short};
 use exports::{of_bank as calls, of_tracker as trackers};
 use plain::PlainBank;
 use plain_tracker::PlainTracker;
+use plain_tracker::from::tracker_of;
 use replay::{Line, put_answer, put_byte, put_code, put_long};
-use shown::inner::{put_held, put_list};
+use shown::inner::{put_list, put_option};
+use shown::left_over::{finished, kept, marked};
+use shown::parts::set_part;
 use shown::{Listed, listed, none_listed, put_departure, put_tracker};
 use std::io;
 use std::io::{BufWriter, Write};
@@ -74,10 +77,10 @@ fn put_tally<W: Write>(out: &mut W, t: calls::BankTally) -> io::Result<()> {
 fn put_place<W: Write>(out: &mut W, b: PlainBank, i: usize) -> io::Result<()> {
     let c = calls::hullathan_bank_challenger(b, i);
     put_code(out, c.code)?;
-    put_held(out, c.has.then_some(c.challenger), put_hypothesis)?;
+    put_option(out, c.has.then_some(c.challenger), put_hypothesis)?;
     let l = calls::hullathan_bank_switch_record(b, i);
     put_code(out, l.code)?;
-    put_held(out, l.has.then_some(l.entry), put_record)
+    put_option(out, l.has.then_some(l.entry), put_record)
 }
 
 // Every call that only reads.
@@ -94,29 +97,20 @@ fn put_all<W: Write>(out: &mut W, r: &Run) -> io::Result<()> {
     put_byte(out, b'A')?;
     put_bank(out, r.bank)?;
     put_long(out, r.serial)?;
-    put_tracker(out, r.primary)?;
+    put_tracker(out, &r.primary)?;
     put_byte(out, b'\n')
 }
 
 // A call of the primary: its code.
-fn told<W: Write>(
-    out: &mut W,
-    p: &mut PlainTracker,
-    letter: u8,
-    a: trackers::TrackerTold,
-) -> io::Result<()> {
-    *p = a.tracker;
+fn told<W: Write>(out: &mut W, letter: u8, code: u8) -> io::Result<()> {
     put_byte(out, letter)?;
-    put_code(out, a.code)?;
+    put_code(out, code)?;
     put_byte(out, b'\n')
 }
 
-fn begun<W: Write>(
-    out: &mut W,
-    p: &mut PlainTracker,
-    a: trackers::TrackerFlagged,
-) -> io::Result<()> {
-    *p = a.tracker;
+fn begun<W: Write>(out: &mut W, p: &mut PlainTracker) -> io::Result<()> {
+    let a = trackers::hullathan_tracker_bootstrap(*p);
+    *p = finished(p, a.tracker);
     put_answer(out, b'f', a.code, a.yes)?;
     put_byte(out, b'\n')
 }
@@ -126,15 +120,22 @@ fn primary_call<W: Write>(out: &mut W, p: &mut PlainTracker, line: &Line) -> io:
     let t = *p;
     let x = line.float();
     match letter {
-        b'm' => told(out, p, letter, trackers::hullathan_tracker_on_mark(t, x)),
-        b'g' => told(
-            out,
-            p,
-            letter,
-            trackers::hullathan_tracker_on_element_gap(t, x),
-        ),
-        b'w' => told(out, p, letter, trackers::hullathan_tracker_seed_wpm(t, x)),
-        b'f' => begun(out, p, trackers::hullathan_tracker_bootstrap(t)),
+        b'm' => {
+            let a = trackers::hullathan_tracker_on_mark(t, x);
+            *p = marked(&t, x, a.tracker);
+            told(out, letter, a.code)
+        }
+        b'g' => {
+            let a = trackers::hullathan_tracker_on_element_gap(t, x);
+            *p = kept(&t, a.tracker);
+            told(out, letter, a.code)
+        }
+        b'w' => {
+            let a = trackers::hullathan_tracker_seed_wpm(t, x);
+            *p = kept(&t, a.tracker);
+            told(out, letter, a.code)
+        }
+        b'f' => begun(out, p),
         _ => {
             *p = trackers::hullathan_tracker_new();
             Ok(())
@@ -142,11 +143,18 @@ fn primary_call<W: Write>(out: &mut W, p: &mut PlainTracker, line: &Line) -> io:
     }
 }
 
-// A part of a challenger's tracker set.
+// A part of a tracker set, as a line says.
+fn set_tracker(t: &mut PlainTracker, line: &Line) {
+    set_part(t, line.first(), line.second(), line.third());
+}
+
+// A part of a challenger's tracker set: what is then no part of its state is emptied.
 fn set_rival(b: &mut PlainBank, line: &Line) {
     let k = usize::from(line.number());
     if k < 8 {
-        shown::parts::set_part(&mut b.challengers[k].tracker, line);
+        let mut t = b.challengers[k].tracker;
+        set_tracker(&mut t, line);
+        b.challengers[k].tracker = PlainTracker::from(tracker_of(t));
     }
 }
 
@@ -161,7 +169,7 @@ fn set(r: &mut Run, line: &Line) {
             set_rival(&mut r.bank, line);
             r.marks = none_listed();
         }
-        b's' => shown::parts::set_part(&mut r.primary, line),
+        b's' => set_tracker(&mut r.primary, line),
         _ => r.serial = u64::from(line.first()) * 4294967296 + u64::from(line.second()),
     }
 }

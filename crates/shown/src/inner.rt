@@ -5,7 +5,7 @@ use std::io;
 use std::io::Write;
 
 // Whether there is one, and where there is, the one.
-pub fn put_held<W: Write, T: Copy, F: FnOnce(&mut W, T) -> io::Result<()>>(
+pub fn put_option<W: Write, T: Copy, F: FnOnce(&mut W, T) -> io::Result<()>>(
     out: &mut W,
     held: Option<T>,
     put: F,

@@ -1,10 +1,14 @@
 // The parts of a tracker's plain form that a line may set, by their numbers: the struct's fields in order, without the
 // pads.
+ghost use Rattle.std.specs.Prelude.{◌≡◌, ◌==◌, cond};
+
 use plain_tracker::{PlainEntry, PlainPair, PlainTracker};
-use replay::{Line, float};
+use replay::float;
 
 // A flag as a line gives it.
-pub fn flag(v: u32) -> u8 {
+pub fn flag(v: u32) -> u8
+    ensures { result ≡ cond (v == 0) 0 1 }
+{
     u8::from(v != 0)
 }
 
@@ -31,11 +35,9 @@ fn set_entry(e: &mut PlainEntry, part: u32, v: u32) {
     }
 }
 
-// One part of a tracker set: a line's fields are its number, its place and its value.
-pub fn set_part(t: &mut PlainTracker, line: &Line) {
-    let part = line.first();
-    let i = line.second() as usize;
-    let v = line.third();
+// One part of a tracker set: its number, its place and its value.
+pub fn set_part(t: &mut PlainTracker, part: u32, place: u32, v: u32) {
+    let i = place as usize;
     match part {
         0..=7 => set_pair(&mut t.pair, part, i, v),
         8 => t.ring_len = v as usize,

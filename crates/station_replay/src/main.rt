@@ -59,13 +59,13 @@ fn put_rival<W: Write>(out: &mut W, h: PlainHypothesis) -> io::Result<()> {
     put_code(out, h.reported)?;
     put_float(out, h.ln_lo)?;
     put_float(out, h.ln_hi)?;
-    put_tracker(out, h.tracker)
+    put_tracker(out, &h.tracker)
 }
 
 // The primary and its rivals.
 fn put_all<W: Write>(out: &mut W, s: PlainStation) -> io::Result<()> {
     put_byte(out, b'A')?;
-    put_tracker(out, s.primary)?;
+    put_tracker(out, &s.primary)?;
     for h in s.bank.challengers.iter().take(s.bank.challengers_len) {
         put_rival(out, *h)?;
     }

@@ -10,6 +10,7 @@
 use exports::of_tracker as calls;
 use plain_tracker::PlainTracker;
 use replay::{Line, put_answer, put_byte, put_code, put_flag, put_float, put_word};
+use shown::left_over::{finished, kept, marked};
 use shown::parts::set_part;
 use shown::{Listed, listed, none_listed, put_tracker};
 use std::io;
@@ -22,14 +23,37 @@ struct Run {
     gaps: Listed,
 }
 
-fn told<W: Write>(out: &mut W, letter: u8, r: calls::TrackerTold) -> io::Result<PlainTracker> {
+// The answer of a call on the tracker t, and the tracker after it.
+fn told<W: Write>(
+    out: &mut W,
+    t: &PlainTracker,
+    letter: u8,
+    r: calls::TrackerTold,
+) -> io::Result<PlainTracker> {
     put_answer(out, letter, r.code, false)?;
-    Ok(r.tracker)
+    Ok(kept(t, r.tracker))
 }
 
-fn said<W: Write>(out: &mut W, letter: u8, r: calls::TrackerFlagged) -> io::Result<PlainTracker> {
+fn said<W: Write>(
+    out: &mut W,
+    t: &PlainTracker,
+    letter: u8,
+    r: calls::TrackerFlagged,
+) -> io::Result<PlainTracker> {
     put_answer(out, letter, r.code, r.yes)?;
-    Ok(r.tracker)
+    Ok(kept(t, r.tracker))
+}
+
+fn mark<W: Write>(out: &mut W, t: PlainTracker, x: f32) -> io::Result<PlainTracker> {
+    let r = calls::hullathan_tracker_on_mark(t, x);
+    put_answer(out, b'M', r.code, false)?;
+    Ok(marked(&t, x, r.tracker))
+}
+
+fn finish<W: Write>(out: &mut W, t: PlainTracker) -> io::Result<PlainTracker> {
+    let r = calls::hullathan_tracker_bootstrap(t);
+    put_answer(out, b'F', r.code, r.yes)?;
+    Ok(finished(&t, r.tracker))
 }
 
 fn put_number<W: Write>(out: &mut W, n: calls::TrackerNumber) -> io::Result<()> {
@@ -58,24 +82,36 @@ fn number_call<W: Write>(out: &mut W, t: PlainTracker, line: &Line) -> io::Resul
     let letter = line.letter();
     let x = line.float();
     match letter {
-        b'M' => told(out, letter, calls::hullathan_tracker_on_mark(t, x)),
-        b'G' => told(out, letter, calls::hullathan_tracker_on_element_gap(t, x)),
-        b'W' => told(out, letter, calls::hullathan_tracker_seed_wpm(t, x)),
-        _ => told(out, letter, calls::hullathan_tracker_set_ratio_hint(t, x)),
+        b'M' => mark(out, t, x),
+        b'G' => told(
+            out,
+            &t,
+            letter,
+            calls::hullathan_tracker_on_element_gap(t, x),
+        ),
+        b'W' => told(out, &t, letter, calls::hullathan_tracker_seed_wpm(t, x)),
+        _ => told(
+            out,
+            &t,
+            letter,
+            calls::hullathan_tracker_set_ratio_hint(t, x),
+        ),
     }
 }
 
 // A call with none.
 fn plain_call<W: Write>(out: &mut W, t: PlainTracker, letter: u8) -> io::Result<PlainTracker> {
     match letter {
-        b'F' => said(out, letter, calls::hullathan_tracker_bootstrap(t)),
+        b'F' => finish(out, t),
         b'T' => said(
             out,
+            &t,
             letter,
             calls::hullathan_tracker_take_badlock_recovered(t),
         ),
         b'R' => told(
             out,
+            &t,
             letter,
             calls::hullathan_tracker_reseed_wpm_after_warmup(t),
         ),
@@ -94,7 +130,7 @@ fn plain_call<W: Write>(out: &mut W, t: PlainTracker, letter: u8) -> io::Result<
 fn resolve<W: Write>(out: &mut W, r: Run) -> io::Result<PlainTracker> {
     let gaps = &r.gaps.at[..r.gaps.len];
     let answer = calls::hullathan_tracker_resolve_unimodal_bootstrap(r.tracker, gaps);
-    said(out, b'U', answer)
+    said(out, &r.tracker, b'U', answer)
 }
 
 // One call: the tracker after it.
@@ -104,7 +140,7 @@ fn call<W: Write>(out: &mut W, r: Run, line: &Line) -> io::Result<PlainTracker> 
         b'M' | b'G' | b'W' | b'H' => number_call(out, t, line),
         b'U' => resolve(out, r),
         b'S' => {
-            set_part(&mut t, line);
+            set_part(&mut t, line.first(), line.second(), line.third());
             put_answer(out, b'S', 0, false)?;
             Ok(t)
         }
@@ -120,7 +156,7 @@ fn turn<W: Write>(out: &mut W, r: &mut Run, line: &Line) -> io::Result<()> {
     }
     r.tracker = call(out, *r, line)?;
     r.gaps = none_listed();
-    put_tracker(out, r.tracker)?;
+    put_tracker(out, &r.tracker)?;
     put_byte(out, b'\n')
 }
 
