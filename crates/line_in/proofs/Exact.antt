@@ -4,10 +4,10 @@ use mathlib.Core.Bool.{Bool, true, false}
 use Prim.Native.Nat.{ℕ, min, ◌+◌, ◌*◌, ◌^◌, ◌≤◌, ◌<◌}
 use native.Mathlib.Nat.{lt_of_lt_of_le, mul-one, mul_assoc, mul_comm, mul-pos}
 use native.Mathlib.Omega.{arith}
-use lib.Dec.{ltb, lit<, lit≤}
+use lib.Dec.{T, ltb, le→leb, lit<, lit≤}
 use lib.Pow.{pow_mono, shl_lt}
 use lib.IntN.{pos}
-use lib.Ieee.{Float, nan, inf, fin, binary32, up, down, size, round, of_int, of_bits, div, lt}
+use lib.Ieee.{Float, nan, inf, fin, binary32, up, down, size, round, of_int, of_bits, div, lt, in_float}
 use lib.Ieee.Fits.{down_pos}
 use lib.Ieee.Scale.{round_same}
 use lib.Ieee.Exact.{HasValue, round_exact}
@@ -51,6 +51,12 @@ sixty_four = refl
 pub refused : of_bits binary32 0x4880_0001 ≡ sixty_fourths 16777218
 unfolding whole sixty_fourths size round of_int of_bits div
 refused = refl
+
+-- ---- up to 16,777,216 a cast to f32 loses nothing
+
+pub fits_float : (n : ℕ) → n ≤ 16777216 → T (in_float binary32 (pos n))
+unfolding in_float
+fits_float n h = le→leb n 16777216 h
 
 -- ---- no number of a line is changed by rounding
 
