@@ -16,6 +16,7 @@ use Rattle.station_model.specs.Station.{Station, Outcome, fresh, step}
 use Rattle.line_in.specs.declared.Entry.{Entry}
 use Rattle.line_in.specs.declared.Entry.TheVariants.{Watch, Call}
 use Rattle.line_out.specs.declared.Shown.{Shown}
+use Rattle.line_out.specs.Codes.{of_code}
 
 -- the letters of document 01
 abbrev pub letter : Event → ℕ
@@ -30,10 +31,10 @@ letter Switch = code "X"
 -- "the letter .., code, dit and dah centroid .. of f32 bits, primary serial, challenger count"; "zeros stand for the
 -- station until there is one"
 abbrev pub shown : ℕ → Code → Option Station → Shown
-shown l c none = record { letter = l; code = c; dit = 0; dah = 0; serial = 0; challengers = 0 }
+shown l c none = record { letter = l; code = of_code c; dit = 0; dah = 0; serial = 0; challengers = 0 }
 shown l c (some s) = record {
   letter = l;
-  code = c;
+  code = of_code c;
   dit = to_bits binary32 s.primary.pair.lo;
   dah = to_bits binary32 s.primary.pair.hi;
   serial = s.serial;

@@ -2,18 +2,19 @@
 use mathlib.Core.Path.{◌≡◌, sym, ap, ◌∙◌}
 use mathlib.Core.Bool.{Bool, true, false, cond}
 use mathlib.Core.List.{List, [], ◌∷◌, ◌++◌}
-use Prim.Native.Nat.{ℕ, ◌+◌, ◌-◌, ◌<◌}
+use Prim.Native.Nat.{ℕ, ◌+◌, ◌-◌, ◌≤◌, ◌<◌}
 use native.Mathlib.Nat.{lt_of_lt_of_le}
 use native.Mathlib.Omega.{arith}
 use lib.Dec.{lit≤}
 use lib.ListN.{length, get_or, length-append}
 use lib.Seq.{get_or_at}
 use borrow.Author.Tests.{ne_eqb}
-use Rattle.station_model.specs.Station.{number, taken}
+use Rattle.station_model.specs.declared.Code.{Code}
 use Rattle.line_out.specs.declared.Shown.{Shown}
+use Rattle.line_out.specs.Codes.{number, of_code, taken}
 use Rattle.line_out.specs.Shown.{tab, newline, hexadecimal, decimal, coded, line}
 use Rattle.line_out.specs.Form.{occurs, Formed, Readable}
-use Rattle.line_out.proofs.Lining.{front, whole, line_most, line_least}
+use Rattle.line_out.proofs.Lining.{front, whole, line_most, line_of_call, line_least, small}
 use Rattle.line_out.proofs.Reading.{digits_value, tens_value, tens_first, digits_none, tens_none}
 
 -- ---- how often a byte occurs
@@ -62,15 +63,20 @@ line_ends s =
     ∙ get_or_at (front s) newline [] 0 (length (front s ++ (newline ∷ [])) - 1)
     (omega (arith, length-append (front s) (newline ∷ [])))
 
-pub formed : (s : Shown) → Formed s
+-- every line whose refusal, if it has one, has a number of 8 bits: `Refused` holds a u8
+pub formed : (s : Shown) → number s.code < 256 → Formed s
 unfolding occurs
-formed s = record {
+formed s h = record {
   least = line_least s;
-  most = line_most s;
+  most = line_most s h;
   ends = line_ends s;
   newlines = λ n. line_occurs newline (omega arith) s ∙ rw (ne_eqb newline s.letter (λ e. n (sym e)));
   tabs = λ n. line_occurs tab (omega arith) s ∙ rw (ne_eqb tab s.letter (λ e. n (sym e)));
 }
+
+-- of a call's code, and a byte shorter at most
+pub formed_of_call : (s : Shown) (c : Code) → s.code ≡ of_code c → Formed s × (length (line s) ≤ 66)
+formed_of_call s c e = (formed s (omega (arith, ap number e, small c)), line_of_call s c e)
 
 pub readable : Readable
 readable = record {

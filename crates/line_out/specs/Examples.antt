@@ -3,10 +3,9 @@
 use Rattle.std.specs.Prelude.{◌≡◌, List, [], ◌∷◌, ℕ}
 use Prim.Native.Char.{code}
 use Prim.Native.String.{String, [] as empty, ◌∷◌ as ◌then◌}
-use Rattle.refusals.specs.declared.Refusal.TheVariants.{BadLine}
-use Rattle.station_model.specs.declared.Code.{Code}
-use Rattle.station_model.specs.declared.Code.TheVariants.{Done, BecameReady, Switched, Nothing, Refused}
 use Rattle.line_out.specs.declared.Shown.{Shown}
+use Rattle.line_out.specs.declared.ShownCode.{ShownCode}
+use Rattle.line_out.specs.declared.ShownCode.TheVariants.{Done, BecameReady, Switched, Nothing, Refused}
 use Rattle.line_out.specs.Shown.{line}
 
 -- the bytes of a text, all of whose characters are ASCII's
@@ -19,7 +18,7 @@ pub record Example : Type 0 where
   pub shown : Shown
   pub text : String
 
-abbrev shows : ℕ → Code → ℕ → ℕ → ℕ → ℕ → String → Example
+abbrev shows : ℕ → ShownCode → ℕ → ℕ → ℕ → ℕ → String → Example
 shows letter code dit dah serial challengers text = record {
   shown = record {
     letter = letter;
@@ -48,8 +47,8 @@ worked =
     ∷ shows (code "X") Switched 0x4270_0000 0x4334_0000 10 7 "X\t2\t42700000\t43340000\t10\t7\n"
     -- a bad line, with 79.8 and 475.6 ms
     ∷ shows (code "?")
-    (Refused BadLine) 0x429f_abcd 0x43ed_cbaf 4294967294 0 "?\tR12\t429FABCD\t43EDCBAF\t4294967294\t0\n"
+    (Refused 12) 0x429f_abcd 0x43ed_cbaf 4294967294 0 "?\tR12\t429FABCD\t43EDCBAF\t4294967294\t0\n"
     -- the longest that can be written: no station has such numbers
     ∷ shows (code "M")
-    (Refused BadLine) 0 0xffff_ffff 18446744073709551615 10000000000000000000 "M\tR12\t00000000\tFFFFFFFF\t18446744073709551615\t10000000000000000000\n"
+    (Refused 255) 0 0xffff_ffff 18446744073709551615 10000000000000000000 "M\tR255\t00000000\tFFFFFFFF\t18446744073709551615\t10000000000000000000\n"
     ∷ []

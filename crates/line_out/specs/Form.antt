@@ -12,7 +12,7 @@ occurs b (x ∷ l) = cond (eqb b x) 1 0 + occurs b l
 -- of a line
 pub record Formed (s : Shown) : Type 0 where
   pub least : 26 ≤ length (line s)
-  pub most : length (line s) ≤ 66
+  pub most : length (line s) ≤ 67
   -- a newline is last, and there is no other; five tabs part six fields
   pub ends : get_or (line s) (length (line s) - 1) 0 ≡ newline
   pub newlines : (s.letter ≡ newline → ⊥) → occurs newline (line s) ≡ 1

@@ -1,3 +1,4 @@
+pub mod Codes
 pub mod Shown
 pub mod Bytes
 pub mod Written

@@ -1,9 +1,9 @@
 -- An output line (document 01, "Journal program"). Definitions only.
 use Rattle.std.specs.Prelude.{cond, List, [], ◌∷◌, ◌++◌, ℕ, zero, suc, ◌+◌, ◌-◌, ◌/◌, ◌%◌, ltb}
 use Prim.Native.Char.{code}
-use Rattle.station_model.specs.declared.Code.{Code}
-use Rattle.station_model.specs.Station.{number, taken}
 use Rattle.line_out.specs.declared.Shown.{Shown}
+use Rattle.line_out.specs.declared.ShownCode.{ShownCode}
+use Rattle.line_out.specs.Codes.{number, taken}
 
 -- ---- bytes
 
@@ -40,7 +40,7 @@ decimal n = tens 20 n
 -- ---- the line
 
 -- "Codes: 0 done, 1 an unready primary became ready .., 2 switched, 3 nothing to do .., R and the number if refused"
-abbrev pub coded : Code → List ℕ
+abbrev pub coded : ShownCode → List ℕ
 coded c = cond (taken c) [] (code "R" ∷ []) ++ decimal (number c)
 
 -- "fields parted by tabs"

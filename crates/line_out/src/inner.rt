@@ -1,26 +1,28 @@
 // The line, written field by field: each function appends to what is written so far, as far as there is room. By hand:
 // what `write!` writes is known only where it succeeds, and no clause says that it does.
 ghost use Rattle.std.specs.Prelude.{◌≡◌, ◌∷◌, ◌++◌, ◌≤◌, ◌<◌, length, take};
-ghost use Rattle.station_model.specs.Station.{number as Station·number, taken as Station·taken};
+ghost use Rattle.station_model.specs.declared.Code.{Code};
+ghost use Rattle.line_out.specs.Codes.{number, of_code};
 ghost use Rattle.line_out.specs.Shown.{tab, digits, hexadecimal, decimal, coded, line};
 ghost use Rattle.line_out.specs.Shown.{glyph as Shown·glyph};
 ghost use Rattle.line_out.specs.Bytes.{contents};
 ghost use Rattle.line_out.specs.Written.{over};
 
-use crate::{Bytes, Shown};
-use station_model::Code;
+use crate::{Bytes, Shown, ShownCode};
 
 const TAB: u8 = b'\t';
 
-// A line as far as it is written: the longest has 66 bytes.
+// A line as far as it is written: the longest has 67 bytes.
 type Line = Bytes<80>;
 
-// Writes the line at the front of a slice of 80 bytes or more, and answers its length, at most 66.
+// Writes the line at the front of a slice of 80 bytes or more, and answers its length, at most 67; with the code of a
+// call, at most 66.
 pub fn write_line(out: &mut [u8], s: Shown) -> usize
     requires { 80 ≤ length out.old }
     ensures value { result ≡ length (line s) }
     ensures out_after { out.new ≡ over (line s) out.old }
-    ensures upper_bound { result ≤ 66 }
+    ensures upper_bound { result ≤ 67 }
+    ensures of_a_call { (c : Code) → s.code ≡ of_code c → result ≤ 66 }
 {
     let line = line_of(s);
     let len = line.as_slice().len();
@@ -31,7 +33,7 @@ pub fn write_line(out: &mut [u8], s: Shown) -> usize
 // The line.
 fn line_of(s: Shown) -> Line
     ensures value { contents result ≡ line s }
-    ensures upper_bound { length (contents result) ≤ 66 }
+    ensures upper_bound { length (contents result) ≤ 67 }
 {
     let mut line = Line::new();
     line.push(s.letter);
@@ -45,8 +47,9 @@ fn line_of(s: Shown) -> Line
 }
 
 // A tab and the code: its number, an R before it if refused.
-fn put_code(line: &mut Line, c: Code)
-    ensures { contents line.new ≡ take 80 (contents line.old ++ (tab ∷ coded c)) }
+fn put_code(line: &mut Line, c: ShownCode)
+    ensures put { contents line.new ≡ take 80 (contents line.old ++ (tab ∷ coded c)) }
+    ensures small { number c < 256 }
 {
     line.push(TAB);
     if !c.is_taken() {

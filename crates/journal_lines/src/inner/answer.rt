@@ -9,7 +9,7 @@ ghost use Rattle.journal_lines.specs.Journal.{answer, bad, called, letter, opene
 ghost use Rattle.journal_lines.specs.Parts.{Answered, Called, Lives, reading};
 
 use line_in::Entry;
-use line_out::Shown;
+use line_out::{Shown, ShownCode};
 use refusals::Refusal;
 use station::Station;
 use station::inner::call::next;
@@ -39,7 +39,7 @@ pub(crate) fn show(station: &Option<Station>, letter: u8, code: Code) -> Shown
     match station {
         None => Shown {
             letter,
-            code,
+            code: ShownCode::from(code),
             dit: 0,
             dah: 0,
             serial: 0,
@@ -56,7 +56,7 @@ pub(crate) fn show_one(s: &Station, letter: u8, code: Code) -> Shown
 {
     Shown {
         letter,
-        code,
+        code: ShownCode::from(code),
         dit: s.primary.pair.lo.to_bits(),
         dah: s.primary.pair.hi.to_bits(),
         serial: s.serial,

@@ -15,14 +15,14 @@ returns-clause-value c =
     let f = e ++ (tab ∷ decimal s.serial) in
     let g = f ++ (tab ∷ decimal s.challengers) in
     let to_a = c.push.ensures ∙ ap (λ (l : List ℕ). take 80 (l ++ a)) c.new-line.ensures in
-    let to_b = joins [] a (tab ∷ coded s.code) to_a c.put_code.ensures in
+    let to_b = joins [] a (tab ∷ coded s.code) to_a c.put_code.ensures.put in
     let to_d = joins [] b (tab ∷ hexadecimal s.dit) to_b c.put_word.ensures in
     let to_e = joins [] d (tab ∷ hexadecimal s.dah) to_d c.put_word-2.ensures in
     let to_f = joins [] e (tab ∷ decimal s.serial) to_e c.put_number.ensures in
     let to_g = joins [] f (tab ∷ decimal s.challengers) to_f c.put_number-2.ensures in
     joins [] g (newline ∷ []) to_g c.push-2.ensures
     ∙ ap (take 80) (whole s)
-    ∙ take_all 80 (line s) (omega (arith, line_most s))
+    ∙ take_all 80 (line s) (omega (arith, line_most s c.put_code.ensures.small))
 
 pub returns-clause-upper_bound : goal.returns-clause-upper_bound
-returns-clause-upper_bound c = rw (returns-clause-value c) (line_most c.args.s)
+returns-clause-upper_bound c = rw (returns-clause-value c) (line_most c.args.s c.put_code.ensures.small)

@@ -1,14 +1,14 @@
 -- `line_out::inner::put_code` meets its contract. Assumes nothing.
 use Rattle.std.proofs.Common.{◌≡◌, [], ◌∷◌, true, false, take, ◌++◌}
-use Rattle.station_model.specs.Station.{number, taken}
+use Rattle.line_out.specs.Codes.{number, taken}
 use Rattle.line_out.specs.Shown.{tab, decimal}
 use Rattle.line_out.specs.Bytes.{contents}
 use Rattle.line_out.proofs.Holding.{joins}
 use Rattle.line_out.proofs.inner.put_code.Goals as goal
 use Rattle.line_out.proofs.inner.put_code.Goals.{then-not-is_taken, else-not-is_taken}
 
-pub returns : goal.returns
-returns c =
+pub returns-clause-put : goal.returns-clause-put
+returns-clause-put c =
     let n = decimal (number c.args.c) in
     let last : contents c.put_decimal.new.line ≡ take 80 (contents c.if-not-is_taken.line ++ n) = cc in
     elim c.if-not-is_taken.branch [
