@@ -36,10 +36,6 @@ module _ (k : Settings) (bytes : List ℕ) where
       ∙ ap (λ (l : List ℕ). l ++ end f.journal) (append-nil f.put)
       ∙ output_is k bytes
 
-pub always : {A : Type 0} {P : Type 0} (x : Result A Failed) → P → OnOk x P
-always (Ok a) p = p
-always (Err e) p = tt
-
 module _ (first : Journal) (b : viewed first ≡ start) (j : Journal) (r : Reads first j) where
   after : viewed j ≡ (feed standard start r.bytes).journal
   after = r.journal ∙ ap (λ (i : Pieces.Journal). (feed standard i r.bytes).journal) b

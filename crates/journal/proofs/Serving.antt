@@ -1,6 +1,6 @@
 -- The loop that answers a piece, a buffer full at a time. Assumes nothing.
 use Rattle.std.proofs.Common.{◌≡◌, refl, ap, sym, ◌∙◌, subst, List, ◌++◌, ℕ, ◌+◌, ◌-◌, ◌≤◌, ◌<◌, arith, length, take}
-use Rattle.std.proofs.Common.{drop, Option, Some, None, Result, Ok, Err, IsErr, [], append-nil}
+use Rattle.std.proofs.Common.{drop, Option, Some, None, Result, Ok, Err, IsOk, IsErr, OnOk, [], append-nil, take_all}
 use Rattle.std.proofs.Common.{length-drop, take_at, take-add}
 use Rattle.std.specs.Io.KnownBytes.{Appends}
 use Rattle.std.proofs.KnownBytes.{Appends-trans}
@@ -15,6 +15,22 @@ use Rattle.journal_lines.proofs.Going.{rest, rest_room}
 use Rattle.journal_lines.proofs.Joining.{feed_append}
 use Rattle.journal.specs.declared.Failed.{Failed}
 use Rattle.journal.specs.Program.{Heard}
+
+-- ---- what went well, or failed
+
+pub where_ok : {A : Type 0} {P : Type 0} (x : Result A Failed) → IsOk x → OnOk x P → P
+where_ok (Ok a) o p = p
+where_ok (Err e) o p = cc
+
+pub where_err : {A : Type 0} (P : Type 0) (x : Result A Failed) → IsErr x → OnOk x P
+where_err P (Ok a) o = cc
+where_err P (Err e) o = tt
+
+pub always : {A : Type 0} {P : Type 0} (x : Result A Failed) → P → OnOk x P
+always (Ok a) p = p
+always (Err e) p = tt
+
+-- ---- the loop
 
 -- nothing more
 pub Appends-none : (c : Option (List ℕ)) → Appends c c []
@@ -109,3 +125,12 @@ module _ (j₀ : Journal) (piece out₀ : List ℕ) (c₀ : Option (List ℕ)) (
     room = k.room;
     wrote = subst (Appends c₀ c') written (Appends-trans _ _ _ _ _ k.wrote a);
   }
+
+-- all of the piece was answered
+pub serve_ends : (j₀ : Journal) (piece out₀ : List ℕ) (c₀ : Option (List ℕ)) (j : Journal) (at : ℕ) (out : List ℕ)
+    (c : Option (List ℕ)) → Serving j₀ piece out₀ c₀ j at out c → length piece ≤ at → (x : Result (Unit {0}) Failed)
+    → Heard j₀ piece j x × OnOk x (Appends c₀ c (feed standard (viewed j₀) piece).put)
+serve_ends j₀ piece out₀ c₀ j at out c k h x =
+    let w = subst (λ (l : List ℕ). Appends c₀ c (feed standard (viewed j₀) l).put) (take_all at piece h) k.wrote in
+    let all = always x (let f = k.few in omega arith) in
+    (record { up_to = at; few = k.few; all = all; journal = k.journal; goes = k.goes }, always x w)

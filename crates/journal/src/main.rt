@@ -2,7 +2,7 @@
 // output.
 #![tactic(auto)]
 
-ghost use Rattle.std.specs.Prelude.{◌≡◌, false, ◌≤◌, ◌<◌, length, IfOk, OnOk};
+ghost use Rattle.std.specs.Prelude.{◌≡◌, false, ◌≤◌, ◌<◌, length, IfOk, IsOk, OnOk};
 ghost use Rattle.std.specs.Io.{ReadsAtMost};
 ghost use Rattle.std.specs.Io.KnownBytes.{Appends};
 ghost use Rattle.ranges.specs.Settings.{standard};
@@ -35,10 +35,17 @@ impl fmt::Display for Failed {
     }
 }
 
-// Writes the answers to what was heard. `was` and `heard` stand here for what is asked: they say whose answers these
-// are.
-fn put<W: Write>(was: &Journal, heard: &[u8], answers: &[u8], to: &mut W) -> Result<(), Failed>
-    requires { answers.now ≡ (feed standard (viewed was.now) heard.now).put }
+// Writes the answers to what was heard. `was`, `heard` and `so_far` stand here for what is asked: whose answers these
+// are, and that no write failed before them.
+fn put<W: Write>(
+    was: &Journal,
+    heard: &[u8],
+    so_far: &Result<(), Failed>,
+    answers: &[u8],
+    to: &mut W,
+) -> Result<(), Failed>
+    requires answers { answers.now ≡ (feed standard (viewed was.now) heard.now).put }
+    requires well_value { IsOk so_far.now }
     ensures { OnOk result (Appends (W.contents to.old) (W.contents to.new) answers.now) }
 {
     to.write_all(answers).map_err(Failed::Write)
@@ -52,15 +59,19 @@ fn answer<W: Write>(j: &mut Journal, piece: &[u8], out: &mut [u8], to: &mut W) -
     ensures wrote { OnOk result
         (Appends (W.contents to.old) (W.contents to.new) (feed standard (viewed j.old) piece.now).put) }
 {
+    let mut well = Ok(());
     let mut at = 0;
     while at < piece.len() {
         let was = *j;
         let fed = feed(j, &piece[at..], out);
         let next = at + fed.used;
-        put(&was, &piece[at..next], &out[..fed.put], to)?;
+        well = put(&was, &piece[at..next], &well, &out[..fed.put], to);
+        if well.is_err() {
+            return well;
+        }
         at = next;
     }
-    Ok(())
+    well
 }
 
 // What a read answered: it failed, the input is at its end, or so many bytes stand at the front of the buffer. Answers
@@ -131,9 +142,15 @@ fn run<I: Read, W: Write>(
     Err(Failed::Endless)
 }
 
-// Writes what there is at the end. `was` stands here for what is asked.
-fn put_last<W: Write>(was: &Journal, last: &[u8], to: &mut W) -> Result<(), Failed>
-    requires { last.now ≡ end (viewed was.now) }
+// Writes what there is at the end, where nothing failed before. `was` and `so_far` stand here for what is asked.
+fn put_last<W: Write>(
+    was: &Journal,
+    so_far: &Result<(), Failed>,
+    last: &[u8],
+    to: &mut W,
+) -> Result<(), Failed>
+    requires last_value { last.now ≡ end (viewed was.now) }
+    requires well_value { IsOk so_far.now }
     ensures { OnOk result (Appends (W.contents to.old) (W.contents to.new) last.now) }
 {
     to.write_all(last).map_err(Failed::Write)
@@ -154,9 +171,12 @@ fn serve<I: Read, W: Write>(
     ensures whole { 0 < length buffer.old →
         OnOk result (Whole (I.remaining from.old) (W.contents to.old) (W.contents to.new)) }
 {
-    run(j, buffer, out, from, to)?;
+    let ran = run(j, buffer, out, from, to);
+    if ran.is_err() {
+        return ran;
+    }
     let n = end(j, out);
-    put_last(j, &out[..n], to)
+    put_last(j, &ran, &out[..n], to)
 }
 
 fn main(rt: HostRuntime) -> ExitCode {
