@@ -75,11 +75,11 @@ pub(crate) fn along(s: Station, b: PlainBatch) -> Ran
             out.answers[i] = formless_row(c);
             continue;
         };
-        let o = match way_of(c, v) {
-            Way::Idle => idle(c, v),
-            Way::Beat(d) => beat(c, v, d),
-            Way::Space(d) => space(c, v, d),
-            Way::Other => next(c, v),
+        let o = match way_of(&c, v) {
+            Way::Idle => idle(&c, v),
+            Way::Beat(d) => beat(&c, v, d),
+            Way::Space(d) => space(&c, v, d),
+            Way::Other => next(&c, v),
         };
         c = o.station;
         out.answers[i] = row_after(o.answer, c);
@@ -92,7 +92,7 @@ pub(crate) fn run_on(s: Station, b: PlainBatch) -> Ran
     requires { Solid s × (b.len ≤ 64) }
     ensures { Along s b result }
 {
-    if is_chosen(s) {
+    if is_chosen(&s) {
         return along(s, b);
     }
     along_any(s, b)

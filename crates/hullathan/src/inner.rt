@@ -35,7 +35,7 @@ pub fn is_good(p: PlainStation, s: Station) -> bool
 pub(crate) fn formless(s: Station) -> Refusal
     ensures { number result ≡ cond (full (view s)) 2 12 }
 {
-    if is_full(s) {
+    if is_full(&s) {
         Refusal::FullCounts
     } else {
         Refusal::BadLine
@@ -48,7 +48,7 @@ pub fn turn(s: Station, event: Option<Event>) -> Outcome
     ensures { Turns s (held event) result }
 {
     match event {
-        Some(e) => call(s, e),
+        Some(e) => call(&s, e),
         None => refuse(s, formless(s)),
     }
 }

@@ -44,7 +44,7 @@ impl Station {
         ensures { Called standard self event result }
     {
         match self.checked() {
-            Ok(s) => known::call(*s, event),
+            Ok(s) => known::call(s, event),
             Err(why) => refuse(self, why),
         }
     }

@@ -89,7 +89,7 @@ pub(crate) fn event(s: &mut Station, e: Event) -> Shown
     requires { Steady s.old }
     ensures { Called s.new result (called e (step standard (view s.old) e)) }
 {
-    let o = next(*s, e);
+    let o = next(s, e);
     *s = o.station;
     show_one(s, letter(e), o.answer.code)
 }

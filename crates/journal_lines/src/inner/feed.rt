@@ -33,11 +33,11 @@ pub fn feed(j: &mut Journal, piece: &[u8], out: &mut [u8]) -> Fed
                 let shown = if let Some(Entry::Call(c)) = e
                     && let Some(s) = &mut j.station
                 {
-                    let o = match way_of(*s, c) {
-                        Way::Idle => idle(*s, c),
-                        Way::Beat(d) => beat(*s, c, d),
-                        Way::Space(d) => space(*s, c, d),
-                        Way::Other => next(*s, c),
+                    let o = match way_of(s, c) {
+                        Way::Idle => idle(s, c),
+                        Way::Beat(d) => beat(s, c, d),
+                        Way::Space(d) => space(s, c, d),
+                        Way::Other => next(s, c),
                     };
                     *s = o.station;
                     show_one(s, letter(c), o.answer.code)

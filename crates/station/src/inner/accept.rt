@@ -42,13 +42,13 @@ pub(crate) fn done(t: Station, code: Code) -> Outcome
 
 // A call is accepted: the primary and its serial, the bank and those that left it, and the code.
 pub(crate) fn accept(
-    s: OpenStation,
+    s: &OpenStation,
     primary: SoundTracker,
     serial: u64,
     t: Changed,
     code: Code,
 ) -> Outcome
-    ensures { Stands result (accepted (view s.station)
+    ensures { Stands result (accepted (view s.now.station)
         (record { primary = Tracked.view primary.tracker; serial = serial; told = told t; code = code })) }
 {
     let gone = t.gone;

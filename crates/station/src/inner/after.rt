@@ -19,8 +19,8 @@ use tracker::inner::gaps::set_ratio_hint;
 use tracker::inner::speed::dit_estimate;
 
 // A hint, of the primary alone.
-pub(crate) fn after_hint(s: OpenStation, ratio: f32) -> Station
-    ensures { Holds result (accepted (view s.station) (acted standard (view s.station) (Hint ratio))).station }
+pub(crate) fn after_hint(s: &OpenStation, ratio: f32) -> Station
+    ensures { Holds result (accepted (view s.now.station) (acted standard (view s.now.station) (Hint ratio))).station }
 {
     let mut t = s.station;
     t.primary = set_ratio_hint(s.primary(), ratio).tracker;
@@ -29,8 +29,8 @@ pub(crate) fn after_hint(s: OpenStation, ratio: f32) -> Station
 }
 
 // A gap, beside a ready primary: the bank hears it, then the primary, where it is an element gap.
-pub(crate) fn after_gap(s: OpenStation, d: Duration) -> Station
-    ensures { Holds result (accepted (view s.station) (acted standard (view s.station) (Gap d.ms))).station }
+pub(crate) fn after_gap(s: &OpenStation, d: Duration) -> Station
+    ensures { Holds result (accepted (view s.now.station) (acted standard (view s.now.station) (Gap d.ms))).station }
 {
     let p = s.primary();
     let mut t = s.station;
@@ -44,9 +44,9 @@ pub(crate) fn after_gap(s: OpenStation, d: Duration) -> Station
 }
 
 // A switch: where nothing is pending, it is only counted.
-pub(crate) fn after_switch(s: OpenStation) -> Station
-    requires { Chosen s.station.bank s.station.primary }
-    ensures { Holds result (accepted (view s.station) (acted standard (view s.station) Switch)).station }
+pub(crate) fn after_switch(s: &OpenStation) -> Station
+    requires { Chosen s.now.station.bank s.now.station.primary }
+    ensures { Holds result (accepted (view s.now.station) (acted standard (view s.now.station) Switch)).station }
 {
     let mut t = s.station;
     t.accepted = s.station.accepted + 1;

@@ -10,20 +10,20 @@ use crate::{Outcome, Station};
 use station_model::Event;
 
 // One call: one event.
-pub fn call(s: Station, e: Event) -> Outcome
-    requires { Solid s }
-    ensures { Called standard s e result × Solid result.station }
+pub fn call(s: &Station, e: Event) -> Outcome
+    requires { Solid s.now }
+    ensures { Called standard s.now e result × Solid result.station }
 {
     match check_call(s, e) {
-        Ok(()) => step(OpenStation { station: s }, e),
-        Err(why) => refuse(s, why),
+        Ok(()) => step(&OpenStation { station: *s }, e),
+        Err(why) => refuse(*s, why),
     }
 }
 
 // The same, on a station from a fresh one: it is never refused by 1.
-pub fn next(s: Station, e: Event) -> Outcome
-    requires { Steady s }
-    ensures { Next s e result }
+pub fn next(s: &Station, e: Event) -> Outcome
+    requires { Steady s.now }
+    ensures { Next s.now e result }
 {
     call(s, e)
 }

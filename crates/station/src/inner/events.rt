@@ -25,9 +25,9 @@ use tracker::inner::begin::{begun, seed_wpm};
 use tracker::inner::mark as learnt;
 
 // The primary became ready, and is p: the bank hears of it, with the recent marks, oldest first.
-pub(crate) fn begin(s: OpenStation, p: SoundTracker) -> Outcome
+pub(crate) fn begin(s: &OpenStation, p: SoundTracker) -> Outcome
     ensures { Stands result
-        (accepted (view s.station) (ready_act standard (view s.station) (Tracked.view p.tracker))) }
+        (accepted (view s.now.station) (ready_act standard (view s.now.station) (Tracked.view p.tracker))) }
 {
     let recent = Marks {
         at: &p.tracker.recent[..p.tracker.recent_len],
@@ -37,9 +37,9 @@ pub(crate) fn begin(s: OpenStation, p: SoundTracker) -> Outcome
 }
 
 // The primary was unready and has learnt a mark, and is p.
-pub(crate) fn learn(s: OpenStation, p: SoundTracker) -> Outcome
+pub(crate) fn learn(s: &OpenStation, p: SoundTracker) -> Outcome
     ensures { Stands result
-        (accepted (view s.station) (learnt_act standard (view s.station) (Tracked.view p.tracker))) }
+        (accepted (view s.now.station) (learnt_act standard (view s.now.station) (Tracked.view p.tracker))) }
 {
     if p.tracker.pair.ready {
         return begin(s, p);
@@ -49,8 +49,8 @@ pub(crate) fn learn(s: OpenStation, p: SoundTracker) -> Outcome
 }
 
 // A live mark: the primary learns it; where it was ready, the bank hears it then.
-pub(crate) fn live_mark(s: OpenStation, d: Duration) -> Outcome
-    ensures { Stands result (accepted (view s.station) (live_act standard (view s.station) d.ms)) }
+pub(crate) fn live_mark(s: &OpenStation, d: Duration) -> Outcome
+    ensures { Stands result (accepted (view s.now.station) (live_act standard (view s.now.station) d.ms)) }
 {
     let p = s.primary();
     let q = learnt::on_mark(p, d);
@@ -62,8 +62,8 @@ pub(crate) fn live_mark(s: OpenStation, d: Duration) -> Outcome
 }
 
 // A mark that is not live: only the bank hears it.
-pub(crate) fn silent_mark(s: OpenStation, d: Duration) -> Outcome
-    ensures { Stands result (accepted (view s.station) (acted standard (view s.station) (Mark d.ms false))) }
+pub(crate) fn silent_mark(s: &OpenStation, d: Duration) -> Outcome
+    ensures { Stands result (accepted (view s.now.station) (acted standard (view s.now.station) (Mark d.ms false))) }
 {
     let p = s.primary();
     let t = heard::on_mark(s.bank(), p, d, false);
@@ -71,16 +71,16 @@ pub(crate) fn silent_mark(s: OpenStation, d: Duration) -> Outcome
 }
 
 // A gap, beside a ready primary: the bank hears it, then the primary, where it is an element gap.
-pub(crate) fn gap(s: OpenStation, d: Duration) -> Outcome
-    ensures { Stands result (accepted (view s.station) (acted standard (view s.station) (Gap d.ms))) }
+pub(crate) fn gap(s: &OpenStation, d: Duration) -> Outcome
+    ensures { Stands result (accepted (view s.now.station) (acted standard (view s.now.station) (Gap d.ms))) }
 {
     let t = after_gap(s, d);
     done(t, Code::Done)
 }
 
 // A finish.
-pub(crate) fn finish(s: OpenStation) -> Outcome
-    ensures { Stands result (accepted (view s.station) (acted standard (view s.station) Finish)) }
+pub(crate) fn finish(s: &OpenStation) -> Outcome
+    ensures { Stands result (accepted (view s.now.station) (acted standard (view s.now.station) Finish)) }
 {
     let p = s.primary();
     if let Some(q) = begun(p) {
@@ -91,9 +91,9 @@ pub(crate) fn finish(s: OpenStation) -> Outcome
 }
 
 // A seed: the primary takes it, and the bank is cleared.
-pub(crate) fn seed(s: OpenStation, wpm: f32) -> Outcome
+pub(crate) fn seed(s: &OpenStation, wpm: f32) -> Outcome
     requires { T (positive wpm) }
-    ensures { Stands result (accepted (view s.station) (acted standard (view s.station) (Seed wpm))) }
+    ensures { Stands result (accepted (view s.now.station) (acted standard (view s.now.station) (Seed wpm))) }
 {
     let p = s.primary();
     let q = seed_wpm(p, wpm);
@@ -107,25 +107,25 @@ pub(crate) fn seed(s: OpenStation, wpm: f32) -> Outcome
 }
 
 // A hint, of the primary alone.
-pub(crate) fn hint(s: OpenStation, ratio: f32) -> Outcome
-    ensures { Stands result (accepted (view s.station) (acted standard (view s.station) (Hint ratio))) }
+pub(crate) fn hint(s: &OpenStation, ratio: f32) -> Outcome
+    ensures { Stands result (accepted (view s.now.station) (acted standard (view s.now.station) (Hint ratio))) }
 {
     let t = after_hint(s, ratio);
     done(t, Code::Done)
 }
 
 // A clear, of the bank alone.
-pub(crate) fn clear_all(s: OpenStation) -> Outcome
-    ensures { Stands result (accepted (view s.station) (acted standard (view s.station) Clear)) }
+pub(crate) fn clear_all(s: &OpenStation) -> Outcome
+    ensures { Stands result (accepted (view s.now.station) (acted standard (view s.now.station) Clear)) }
 {
     let t = clear(s.bank().bank);
     accept(s, s.primary(), s.station.serial, t, Code::Done)
 }
 
 // A switch.
-pub(crate) fn switch(s: OpenStation) -> Outcome
-    requires { Chosen s.station.bank s.station.primary }
-    ensures { Stands result (accepted (view s.station) (acted standard (view s.station) Switch)) }
+pub(crate) fn switch(s: &OpenStation) -> Outcome
+    requires { Chosen s.now.station.bank s.now.station.primary }
+    ensures { Stands result (accepted (view s.now.station) (acted standard (view s.now.station) Switch)) }
 {
     let t = after_switch(s);
     let code = switching(s.station.serial, t.serial);
@@ -133,8 +133,8 @@ pub(crate) fn switch(s: OpenStation) -> Outcome
 }
 
 // A mark, live or not.
-pub(crate) fn mark(s: OpenStation, d: Duration, live: bool) -> Outcome
-    ensures { Stands result (accepted (view s.station) (acted standard (view s.station) (Mark d.ms live))) }
+pub(crate) fn mark(s: &OpenStation, d: Duration, live: bool) -> Outcome
+    ensures { Stands result (accepted (view s.now.station) (acted standard (view s.now.station) (Mark d.ms live))) }
 {
     if live {
         live_mark(s, d)
@@ -144,9 +144,9 @@ pub(crate) fn mark(s: OpenStation, d: Duration, live: bool) -> Outcome
 }
 
 // What an event does.
-pub fn step(s: OpenStation, e: Event) -> Outcome
-    requires { Allowed s.station e }
-    ensures { Stands result (accepted (view s.station) (acted standard (view s.station) e)) }
+pub fn step(s: &OpenStation, e: Event) -> Outcome
+    requires { Allowed s.now.station e }
+    ensures { Stands result (accepted (view s.now.station) (acted standard (view s.now.station) e)) }
 {
     match e {
         Event::Mark { dur_ms, live } => mark(s, Duration { ms: dur_ms }, live),

@@ -37,16 +37,16 @@ pub enum Way {
 }
 
 // Whether the bank hears what comes.
-pub(crate) fn is_heard(s: Station) -> bool
-    ensures { result ≡ (s.primary.pair.ready && nat_le 2 s.bank.width) }
+pub(crate) fn is_heard(s: &Station) -> bool
+    ensures { result ≡ (s.now.primary.pair.ready && nat_le 2 s.now.bank.width) }
 {
     s.primary.pair.ready && 2 <= s.bank.width
 }
 
 // The way of a mark. A streak of fewer than three marks makes no candidate with the next.
-pub(crate) fn mark_way(s: Station, d: Duration, live: bool) -> Way
-    requires { refusal (view s) (Mark d.ms live) ≡ 0 }
-    ensures { Leads s (Mark d.ms live) result }
+pub(crate) fn mark_way(s: &Station, d: Duration, live: bool) -> Way
+    requires { refusal (view s.now) (Mark d.ms live) ≡ 0 }
+    ensures { Leads s.now (Mark d.ms live) result }
 {
     if live && is_heard(s) && s.bank.streak_len < 3 {
         return Way::Beat(d);
@@ -55,9 +55,9 @@ pub(crate) fn mark_way(s: Station, d: Duration, live: bool) -> Way
 }
 
 // The way of a gap.
-pub(crate) fn gap_way(s: Station, d: Duration) -> Way
-    requires { refusal (view s) (Gap d.ms) ≡ 0 }
-    ensures { Leads s (Gap d.ms) result }
+pub(crate) fn gap_way(s: &Station, d: Duration) -> Way
+    requires { refusal (view s.now) (Gap d.ms) ≡ 0 }
+    ensures { Leads s.now (Gap d.ms) result }
 {
     if !is_heard(s) || 12.0 * dit_estimate(s.primary) <= d.ms {
         return Way::Other;
@@ -66,9 +66,9 @@ pub(crate) fn gap_way(s: Station, d: Duration) -> Way
 }
 
 // The way of a switch.
-pub(crate) fn switch_way(s: Station) -> Way
-    requires { refusal (view s) Switch ≡ 0 }
-    ensures { Leads s Switch result }
+pub(crate) fn switch_way(s: &Station) -> Way
+    requires { refusal (view s.now) Switch ≡ 0 }
+    ensures { Leads s.now Switch result }
 {
     if s.bank.pending.is_some() {
         return Way::Other;
@@ -77,8 +77,8 @@ pub(crate) fn switch_way(s: Station) -> Way
 }
 
 // The way of an event.
-pub fn way_of(s: Station, e: Event) -> Way
-    ensures { Leads s e result }
+pub fn way_of(s: &Station, e: Event) -> Way
+    ensures { Leads s.now e result }
 {
     let Ok(()) = check_steady(s, e) else {
         return Way::Other;
@@ -92,36 +92,36 @@ pub fn way_of(s: Station, e: Event) -> Way
 }
 
 // A switch with nothing pending: it is only counted.
-pub fn idle(s: Station, e: Event) -> Outcome
-    requires { Steady s × Idles s e }
-    ensures { Next s e result }
+pub fn idle(s: &Station, e: Event) -> Outcome
+    requires { Steady s.now × Idles s.now e }
+    ensures { Next s.now e result }
 {
     let station = Station {
         accepted: s.accepted + 1,
-        ..s
+        ..*s
     };
     done(station, Code::Nothing)
 }
 
 // A live mark d that the bank hears, and that makes no candidate.
-pub fn beat(s: Station, e: Event, d: Duration) -> Outcome
-    requires { Steady s × Beats s e d }
-    ensures { Next s e result }
+pub fn beat(s: &Station, e: Event, d: Duration) -> Outcome
+    requires { Steady s.now × Beats s.now e d }
+    ensures { Next s.now e result }
 {
-    let o = OpenStation { station: s };
+    let o = OpenStation { station: *s };
     let p = on_mark(o.primary(), d);
     let k = centroid_logs(p.tracker.pair.lo, p.tracker.pair.hi);
     let side = is_high(p.tracker.pair, d.ms);
     let t = hear_beat(o.bank(), p.tracker, side, k, d);
-    accept(o, p, s.serial, t, Code::Done)
+    accept(&o, p, s.serial, t, Code::Done)
 }
 
 // A gap d that the bank hears, and that is no pause.
-pub fn space(s: Station, e: Event, d: Duration) -> Outcome
-    requires { Steady s × Spaces s e d }
-    ensures { Next s e result }
+pub fn space(s: &Station, e: Event, d: Duration) -> Outcome
+    requires { Steady s.now × Spaces s.now e d }
+    ensures { Next s.now e result }
 {
-    let o = OpenStation { station: s };
+    let o = OpenStation { station: *s };
     let unit = dit_estimate(s.primary);
     let station = Station {
         primary: hear_one(o.primary(), unit, d).tracker,

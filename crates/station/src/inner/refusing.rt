@@ -17,15 +17,15 @@ use station_model::{Code, Event};
 use tracker::inner::door::check_speed;
 
 // Whether a choice, where there is one, stands beside a ready primary.
-pub fn is_chosen(s: Station) -> bool
-    ensures { result ≡ not (is_some s.bank.pending && not s.primary.pair.ready) }
+pub fn is_chosen(s: &Station) -> bool
+    ensures { result ≡ not (is_some s.now.bank.pending && not s.now.primary.pair.ready) }
 {
     s.bank.pending.is_none() || s.primary.pair.ready
 }
 
 // The same, at a switch.
-pub(crate) fn is_choice_sound(s: Station, e: Event) -> bool
-    ensures { result ≡ choice_sound s e }
+pub(crate) fn is_choice_sound(s: &Station, e: Event) -> bool
+    ensures { result ≡ choice_sound s.now e }
 {
     match e {
         Event::Switch => is_chosen(s),
@@ -45,15 +45,15 @@ pub(crate) fn check_number(e: Event) -> Result<(), Refusal>
 }
 
 // Whether the marks, the gaps or the calls can be counted no further.
-pub fn is_full(s: Station) -> bool
-    ensures { result ≡ full (view s) }
+pub fn is_full(s: &Station) -> bool
+    ensures { result ≡ full (view s.now) }
 {
     4294967295 <= s.bank.marks_seen || 4294967295 <= s.bank.gaps_seen || 4294967295 <= s.accepted
 }
 
 // Refusals 2 and 5 to 8, which are all that a call on a steady station can meet.
-pub fn check_steady(s: Station, e: Event) -> Result<(), Refusal>
-    ensures { refusal_of result ≡ refusal (view s) e }
+pub fn check_steady(s: &Station, e: Event) -> Result<(), Refusal>
+    ensures { refusal_of result ≡ refusal (view s.now) e }
 {
     if is_full(s) {
         return Err(Refusal::FullCounts);
@@ -63,9 +63,9 @@ pub fn check_steady(s: Station, e: Event) -> Result<(), Refusal>
 
 // Refusals 1, 2 and 5 to 8, of a sound station: 1 is that of a choice at a switch.
 #[tactic(auto, using(crate::proofs::Refusing::call_sound))]
-pub(crate) fn check_call(s: Station, e: Event) -> Result<(), Refusal>
-    requires { Solid s }
-    ensures { refusal_of result ≡ call_refusal standard s e }
+pub(crate) fn check_call(s: &Station, e: Event) -> Result<(), Refusal>
+    requires { Solid s.now }
+    ensures { refusal_of result ≡ call_refusal standard s.now e }
 {
     if is_choice_sound(s, e) {
         return check_steady(s, e);

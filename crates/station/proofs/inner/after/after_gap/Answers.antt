@@ -8,7 +8,7 @@ use Rattle.station.proofs.inner.after.after_gap.Goals as goal
 
 pub returns-then-p : goal.returns-then-p
 returns-then-p c =
-    let s = c.args.s.station in
+    let s = c.args.s.now.station in
     let m = view s in
     let d = c.args.d.ms in
     let q = c.hear_one in
@@ -19,7 +19,7 @@ returns-then-p c =
 
 pub returns-else-p : goal.returns-else-p
 returns-else-p c =
-    let s = c.args.s in
+    let s = c.args.s.now in
     let m = view s.station in
     holds s.station s.station.primary m.serial s.station.bank Done (gap_act standard m c.args.d.ms) s.solid.primary s.solid.bank
     (gap_not standard m c.args.d.ms (rw c.primary-p.ensures at c.if-p.false))

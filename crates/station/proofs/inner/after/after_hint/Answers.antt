@@ -9,7 +9,7 @@ use Rattle.station.proofs.inner.after.after_hint.Goals as goal
 
 pub returns : goal.returns
 returns c =
-    let s = c.args.s in
+    let s = c.args.s.now in
     let q = c.set_ratio_hint in
     holds s.station q.result.tracker _ s.station.bank Done (acted standard (view s.station) (Hint c.args.ratio))
     q.result.held s.solid.bank (rw (q.ensures, c.primary.ensures))

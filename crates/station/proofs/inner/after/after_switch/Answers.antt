@@ -9,7 +9,7 @@ use Rattle.station.proofs.inner.after.after_switch.Goals as goal
 
 pub returns-then-is_some : goal.returns-then-is_some
 returns-then-is_some c =
-    let s = c.args.s.station in
+    let s = c.args.s.now.station in
     let m = view s in
     let k = c.take_switch-k in
     let taken = rw (c.bank.ensures, c.primary.ensures) at k.ensures.is in
@@ -19,7 +19,7 @@ returns-then-is_some c =
 
 pub returns-else-is_some : goal.returns-else-is_some
 returns-else-is_some c =
-    let s = c.args.s in
+    let s = c.args.s.now in
     let m = view s.station in
     let taken = idle_taken s.station (sym c.is_some.ensures ∙ c.if-is_some.false) in
     holds s.station s.station.primary m.serial s.station.bank _

@@ -11,7 +11,7 @@ use Rattle.station.proofs.inner.events.switch.Goals as goal
 
 pub returns : goal.returns
 returns c =
-    let s = c.args.s in
+    let s = c.args.s.now in
     let t = s.station in
     let h = c.after_switch-t in
     let told = ap (λ (m : Model.Station). cond (eqb m.serial t.serial) Nothing Switched) h.ensures.is in

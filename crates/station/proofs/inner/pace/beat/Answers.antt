@@ -11,12 +11,12 @@ pub centroid_logs-k-requires : goal.centroid_logs-k-requires
 centroid_logs-k-requires c =
     let p = c.on_mark-p.result in
     let e = rw c.primary.ensures at c.on_mark-p.ensures in
-    let r = beat_ready c.args.s c.requires.1.heard c.args.d.ms p.tracker e in
+    let r = beat_ready c.args.s.now c.requires.1.heard c.args.d.ms p.tracker e in
     (dit_log p.tracker p.held r, dah_log p.tracker p.held r)
 
 pub returns : goal.returns
 returns c =
-    let s = c.args.s in
+    let s = c.args.s.now in
     let m = view s in
     let d = c.args.d.ms in
     let i = c.requires.1 in

@@ -10,7 +10,7 @@ use Rattle.station.proofs.inner.pace.idle.Goals as goal
 
 pub returns : goal.returns
 returns c =
-    let s = c.args.s in
+    let s = c.args.s.now in
     let m = view s in
     let k = c.requires.0 in
     let i = c.requires.1 in

@@ -19,7 +19,7 @@ use Rattle.station.proofs.inner.pace.space.Goals as goal
 
 pub hear_space-requires : goal.hear_space-requires
 hear_space-requires c =
-    let s = c.args.s in
+    let s = c.args.s.now in
     let u = c.dit_estimate-unit.ensures in (
       u,
       subst (λ (x : Float). T (positive (larger x milli))) (sym u)
@@ -28,7 +28,7 @@ hear_space-requires c =
 
 pub returns : goal.returns
 returns c =
-    let s = c.args.s in
+    let s = c.args.s.now in
     let m = view s in
     let d = c.args.d in
     let k = c.requires.0 in
