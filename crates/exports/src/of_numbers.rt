@@ -101,7 +101,7 @@ pub fn hullathan_is_finite32(v: f32, out: &mut bool) -> u8
     ensures value { result ≡ 0 }
     ensures out_after { out.new ≡ finite v }
 {
-    *out = v.is_finite();
+    *out = order::is_finite32(v);
     0
 }
 
