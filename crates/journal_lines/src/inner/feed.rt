@@ -29,7 +29,7 @@ pub fn feed(j: &mut Journal, piece: &[u8], out: &mut [u8]) -> Fed
                 let e = entry_of(j.held.as_slice());
                 j.held.clear();
                 // Here, and not by `answer`: each call of a function clears the room for its copies of the station,
-                // which took 16,800 instructions a line in place of 8,400.
+                // which took twice the instructions a line.
                 let shown = if let Some(Entry::Call(c)) = e
                     && let Some(s) = &mut j.station
                 {
