@@ -6,7 +6,9 @@ use mathlib.Core.Option.{Option, none, some}
 use Prim.Native.Nat.{ℕ, zero, suc, ◌≤◌, ◌<◌}
 use native.Mathlib.Nat.{lt_irrefl, zero-lt-suc}
 use native.Mathlib.Omega.{arith}
-use lib.Dec.{T, eqb}
+use lib.Dec.{T, eqb, leb}
+use Rattle.std.specs.Bool.{then_some}
+use Rattle.std.proofs.lemmas.Bool.Decides.{leb_tells}
 use lib.Ieee.{Float, nan, inf, fin, binary32, div, mul, le, lt, fits, is_nan, of_bits}
 use lib.Ieee.{size, round}
 use lib.Ieee.Bits.{is_true}
@@ -27,7 +29,7 @@ use Rattle.ranges.proofs.Door.{not_positive}
 use Rattle.ranges.proofs.Clamp as C
 use Rattle.sender.specs.declared.ClassStats.{ClassStats}
 use Rattle.sender.specs.Constants.{nominal_ratio, word_min, word_max, pause_min, pause_times, ratio_count}
-use Rattle.sender.specs.Model.{Class, Timing, view_class}
+use Rattle.sender.specs.Model.{Class, Timing, view_class, held}
 use Rattle.sender.specs.Sound.{class_sound, sound}
 use Rattle.sender.specs.Steps.{enough, ratio, boundary, word_dits, char_gap_or, pauses}
 use Rattle.sender.specs.Answers.{in_dits, unless, state_refusal, optional, word_said}
@@ -133,6 +135,15 @@ ratio_of dot dash h k m n =
     let e = seen dot (many dot.n m) in
     let f = seen dash (many dash.n n) in
     ap₂ ratio e f ∙ ratio_is _ _ (subst (λ (o : Option Class). T (class_sound o)) e h) (subst (λ (o : Option Class). T (class_sound o)) f k) (le-leb ratio_count dot.n m) (le-leb ratio_count dash.n n)
+
+-- what the code tests of the dashes, once there are enough dots
+pub ratio_known : (dot dash : ClassStats) (b : Bool) → T (class_sound (view_class dot))
+    → T (class_sound (view_class dash)) → ratio_count ≤ dot.n → b ≡ leb ratio_count dash.n
+    → held (then_some b (div binary32 dash.mean.0 dot.mean.0)) ≡ ratio (view_class dot) (view_class dash)
+ratio_known dot dash b h k m e = elim (leb_tells ratio_count dash.n) [
+  | inl t ↦ rw (e ∙ t.0) (sym (ratio_of dot dash h k m t.1))
+  | inr t ↦ rw (e ∙ t.0) (sym (few_dashes dash (view_class dot) t.1))
+]
 
 pub word_of : (c : Class) (o w : Option Class) → some c ≡ o → T (class_sound o) → T (class_sound w)
     → word_dits o w ≡ some (clamp word_min word_max (boundary c.mean w))

@@ -60,12 +60,7 @@ impl SoundTiming {
     {
         let dot = self.timing.dot;
         let dash = self.timing.dash;
-        // an `if`: nothing is divided where there is no ratio
-        if dot.n >= 3 && dash.n >= 3 {
-            Some(dash.mean.0 / dot.mean.0)
-        } else {
-            None
-        }
+        (dot.n >= 3 && dash.n >= 3).then_some(dash.mean.0 / dot.mean.0)
     }
 
     // The boundary between characters and words. It is finite, so the Rust's test for that is left out.
