@@ -10,6 +10,7 @@ ghost use Rattle.replay.specs.Text.{field_of};
 
 use inner::put_list;
 use marks::List;
+use marks::inner::places::push;
 use plain::PlainDeparture;
 use plain_tracker::from::flag_of;
 use plain_tracker::{PlainEntry, PlainPair, PlainTracker};
@@ -38,7 +39,7 @@ pub fn listed(list: Listed, x: f32) -> Listed
     ensures { take result.len result.at ≡
         cond (ltb list.len 13) (pushed 13 (take list.len list.at) x) (take list.len list.at) }
 {
-    if list.len < 13 { list.push(x) } else { list }
+    if list.len < 13 { push(list, x) } else { list }
 }
 
 // A count; none here is above 32 bits.
