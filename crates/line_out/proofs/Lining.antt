@@ -52,7 +52,7 @@ marked n false l b = omega arith
 coded_most : (c : ShownCode) → number c < 256 → length (coded c) ≤ 4
 coded_most c h = marked 3 (taken c) (decimal (number c)) (tens_short 20 2 (number c) (omega arith))
 
-coded_call : (c : Code) → length (coded (of_code c)) ≤ 3
+pub coded_call : (c : Code) → length (coded (of_code c)) ≤ 3
 coded_call c =
     let n = number (of_code c) in
     marked 2 (taken (of_code c)) (decimal n) (tens_short 20 1 n (small c))
