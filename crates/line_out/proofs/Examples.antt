@@ -5,4 +5,4 @@ use Rattle.line_out.specs.Examples.{AllHold, worked, bytes}
 
 pub all_hold : AllHold worked
 unfolding AllHold bytes line digits tens
-all_hold = (refl, (refl, (refl, (refl, (refl, (refl, (refl, (refl, tt))))))))
+all_hold = (refl, (refl, (refl, (refl, (refl, (refl, (refl, (refl, (refl, tt)))))))))

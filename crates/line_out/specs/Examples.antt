@@ -48,7 +48,9 @@ worked =
     -- a bad line, with 79.8 and 475.6 ms
     ∷ shows (code "?")
     (Refused 12) 0x429f_abcd 0x43ed_cbaf 4294967294 0 "?\tR12\t429FABCD\t43EDCBAF\t4294967294\t0\n"
-    -- the longest that can be written: no station has such numbers
+    -- the longest of a call, and the longest of any number of 8 bits: no station has such numbers
+    ∷ shows (code "M")
+    (Refused 12) 0 0xffff_ffff 18446744073709551615 10000000000000000000 "M\tR12\t00000000\tFFFFFFFF\t18446744073709551615\t10000000000000000000\n"
     ∷ shows (code "M")
     (Refused 255) 0 0xffff_ffff 18446744073709551615 10000000000000000000 "M\tR255\t00000000\tFFFFFFFF\t18446744073709551615\t10000000000000000000\n"
     ∷ []
