@@ -1,20 +1,25 @@
 -- A line's answer: what the parts of the code add up to. Assumes nothing.
 use mathlib.Core.Path.{◌≡◌, refl, ap, ◌∙◌, subst}
-use mathlib.Core.Bool.{Bool, true, false, not}
-use mathlib.Core.Option.{some}
+use mathlib.Core.Bool.{Bool, true, false, cond, not}
+use mathlib.Core.Option.{none, some}
+use mathlib.Core.Option as Math
 use mathlib.Core.List.{List, ◌++◌}
 use Prim.Native.Nat.{ℕ, ◌≤◌}
 use native.Mathlib.Omega.{arith}
 use lib.ListN.{length, drop, length-append, length-drop}
-use lib.Dec.{T}
+use lib.Dec.{T, leb}
 use lib.Ieee.{Float, nan, inf, fin, eq, is_nan}
-use Rattle.std.specs.Prelude.{Option, Some}
-use Rattle.ranges.specs.Settings.{standard}
+use Rattle.std.specs.Prelude.{Option, None, Some}
+use Rattle.ranges.specs.Settings.{Settings, standard}
 use Rattle.ranges.proofs.Compare.{in_number}
 use Rattle.pair.specs.Model.{Pair}
 use Rattle.pair.specs.Sound.{pair_sound, plus_zero}
 use Rattle.pair.proofs.Soundness.{ready_in, unready_zero}
 use Rattle.tracker.proofs.Soundness.{sound_fine}
+use Rattle.bank_model.specs.Departures.{widest}
+use Rattle.refusals.specs.declared.Refusal.TheVariants.{BadLine, TooWide}
+use Rattle.station_model.specs.declared.Code.{Code}
+use Rattle.station_model.specs.declared.Code.TheVariants.{Done, Refused}
 use Rattle.station_model.specs.declared.Event.{Event}
 use Rattle.station_model.specs.Station.{step}
 use Rattle.station_model.specs.Station as Model
@@ -23,9 +28,10 @@ use Rattle.station.specs.declared.Outcome.{Outcome}
 use Rattle.station.specs.View.{view}
 use Rattle.station.specs.Parts.{Next, Steady}
 use Rattle.line_in.specs.declared.Entry.{Entry}
-use Rattle.line_in.specs.declared.Entry.TheVariants.{Call}
+use Rattle.line_in.specs.declared.Entry.TheVariants.{Watch, Call}
 use Rattle.line_in.specs.Form.{entry}
 use Rattle.line_out.specs.declared.Shown.{Shown}
+use Rattle.line_out.specs.Codes.{of_code}
 use Rattle.line_out.specs.Shown.{line}
 use Rattle.line_out.specs.Written.{over}
 use Rattle.journal_lines.specs.Journal.{Turn, answer, called, letter, shown}
@@ -69,6 +75,29 @@ called_answered t s e c o v p q k l m g =
     subst (λ (m : Model.Outcome). Answered (Some o.station) v (called c m)) k.is
     (record { station = refl; shown = h; lives = k.steady }) in
     rw (p, q) a
+
+-- ---- what is shown is the code of a call
+
+pub shown_of_call : (l : ℕ) (c : Code) (s : Math.Option Model.Station) → (shown l c s).code ≡ of_code c
+shown_of_call l c none = refl
+shown_of_call l c (some s) = refl
+
+abbrev OfCall : Turn → Type 0
+OfCall t = (c : Code) × (t.shown.code ≡ of_code c)
+
+either_of_call : (b : Bool) (t u : Turn) → OfCall t → OfCall u → OfCall (cond b t u)
+either_of_call true t u p q = p
+either_of_call false t u p q = q
+
+pub answer_of_call : (k : Settings) (s : Math.Option Model.Station) (e : Option Entry)
+    → (c : Code) × ((answer k s e).shown.code ≡ of_code c)
+answer_of_call k none (Some (Watch w b)) =
+    either_of_call (leb w widest) _ _ (Done, refl) (Refused TooWide, refl)
+answer_of_call k none (Some (Call e)) = (Refused BadLine, refl)
+answer_of_call k none None = (Refused BadLine, refl)
+answer_of_call k (some s) (Some (Watch w b)) = (Refused BadLine, refl)
+answer_of_call k (some s) (Some (Call e)) = ((step k s e).answer.code, refl)
+answer_of_call k (some s) None = (Refused BadLine, refl)
 
 -- ---- a line's answer, written
 
