@@ -82,17 +82,16 @@ pub shown_of_call : (l : ℕ) (c : Code) (s : Math.Option Model.Station) → (sh
 shown_of_call l c none = refl
 shown_of_call l c (some s) = refl
 
-abbrev OfCall : Turn → Type 0
+-- a code of a call, and that it is shown
+abbrev pub OfCall : Turn → Type 0
 OfCall t = (c : Code) × (t.shown.code ≡ of_code c)
 
 either_of_call : (b : Bool) (t u : Turn) → OfCall t → OfCall u → OfCall (cond b t u)
 either_of_call true t u p q = p
 either_of_call false t u p q = q
 
-pub answer_of_call : (k : Settings) (s : Math.Option Model.Station) (e : Option Entry)
-    → (c : Code) × ((answer k s e).shown.code ≡ of_code c)
-answer_of_call k none (Some (Watch w b)) =
-    either_of_call (leb w widest) _ _ (Done, refl) (Refused TooWide, refl)
+pub answer_of_call : (k : Settings) (s : Math.Option Model.Station) (e : Option Entry) → OfCall (answer k s e)
+answer_of_call k none (Some (Watch w b)) = either_of_call (leb w widest) _ _ (Done, refl) (Refused TooWide, refl)
 answer_of_call k none (Some (Call e)) = (Refused BadLine, refl)
 answer_of_call k none None = (Refused BadLine, refl)
 answer_of_call k (some s) (Some (Watch w b)) = (Refused BadLine, refl)
